@@ -1,0 +1,59 @@
+-- Facts of getD and set that the library lacks. Assumes nothing.
+use mathlib.Core.Path.{_≡_, refl, sym, subst}
+use mathlib.Core.Bool.{Bool, true, false, cond}
+use mathlib.Core.List.{List, [], _∷_, _++_}
+use Prim.Native.Nat.{ℕ, zero, suc, _+_, _-_, _≤_, _<_}
+use native.Mathlib.Omega.{arith}
+use lib.Dec.{eqb}
+use lib.ListN.{length, getD, set, replicate}
+use lib.Seq.{getD-set-same, getD-set-other}
+use Rattle.general.specs.Sums.{only}
+use Rattle.general.specs.Tables.{All}
+use Rattle.general.proofs.Tests.{by-eqb}
+
+-- one place raised, and one lowered
+pub set-raised : (l : List ℕ) (i d v : ℕ) → i < length l → getD (set l i (getD l i 0 + d)) v 0 ≡ getD l v 0 + only (eqb i v) d
+set-raised l i d v h = by-eqb i v (λ t. getD (set l i (getD l i 0 + d)) v 0 ≡ getD l v 0 + only t d)
+    (λ e. subst (λ (u : ℕ). getD (set l i (getD l i 0 + d)) u 0 ≡ getD l u 0 + d) e (getD-set-same l i (getD l i 0 + d) 0 h))
+    (λ e. omega (arith, getD-set-other l i v (getD l i 0 + d) 0 (λ f. e (sym f))))
+
+pub set-lowered : (l : List ℕ) (i x v : ℕ) → i < length l → x ≤ getD l i 0 → getD (set l i (getD l i 0 - x)) v 0 + only (eqb i v) x ≡ getD l v 0
+set-lowered l i x v h k = by-eqb i v (λ t. getD (set l i (getD l i 0 - x)) v 0 + only t x ≡ getD l v 0)
+    (λ e. subst (λ (u : ℕ). getD (set l i (getD l i 0 - x)) u 0 + x ≡ getD l u 0) e (omega (arith, getD-set-same l i (getD l i 0 - x) 0 h)))
+    (λ e. omega (arith, getD-set-other l i v (getD l i 0 - x) 0 (λ f. e (sym f))))
+
+-- a bound for each place is kept by a store that keeps it
+pub set-within : (f : ℕ → ℕ) (l : List ℕ) (i x : ℕ) → x ≤ f i → ((v : ℕ) → getD l v 0 ≤ f v) → (v : ℕ) → getD (set l i x) v 0 ≤ f v
+set-within f [] i x h k v = k v
+set-within f (y ∷ ys) zero x h k zero = h
+set-within f (y ∷ ys) zero x h k (suc v) = k (suc v)
+set-within f (y ∷ ys) (suc i) x h k zero = k 0
+set-within f (y ∷ ys) (suc i) x h k (suc v) = set-within (λ j. f (suc j)) ys i x h (λ j. k (suc j)) v
+
+pub getD-zeros : (n i : ℕ) → _≡_ {A = ℕ} (getD (replicate n 0) i 0) 0
+getD-zeros zero i = refl
+getD-zeros (suc n) zero = refl
+getD-zeros (suc n) (suc i) = getD-zeros n i
+
+pub length-cond : {A : Type 0} (t : Bool) (x y : List A) (n : ℕ) → length x ≡ n → length y ≡ n → length (cond t x y) ≡ n
+length-cond true x y n e f = e
+length-cond false x y n e f = f
+
+-- ---- a property of every element
+
+pub all-append : {A : Type 0} (P : A → Type 0) (l : List A) (x : A) → All P l → P x → All P (l ++ (x ∷ []))
+all-append P [] x h k = (k, tt)
+all-append P (y ∷ l) x h k = (h .0, all-append P l x (h .1) k)
+
+pub all-from : {A : Type 0} (P : A → Type 0) (l : List A) (d : A) → ((i : ℕ) → i < length l → P (getD l i d)) → All P l
+all-from P [] d h = tt
+all-from P (x ∷ l) d h = (h 0 (omega arith), all-from P l d (λ i k. h (suc i) (omega arith)))
+
+pub all-map : {A : Type 0} (P Q : A → Type 0) (l : List A) → ((x : A) → P x → Q x) → All P l → All Q l
+all-map P Q [] f h = tt
+all-map P Q (x ∷ l) f h = (f x (h .0), all-map P Q l f (h .1))
+
+pub all-at-place : {A : Type 0} (P : A → Type 0) (l : List A) (d : A) → All P l → (i : ℕ) → i < length l → P (getD l i d)
+all-at-place P [] d h i k = absurd (omega arith)
+all-at-place P (x ∷ l) d h zero k = h .0
+all-at-place P (x ∷ l) d h (suc i) k = all-at-place P l d (h .1) i (omega arith)

@@ -1,0 +1,46 @@
+-- Laws of tables. Assumes nothing.
+use mathlib.Core.Path.{_≡_, refl, sym, ap, _∙_}
+use mathlib.Core.List.{List, [], _∷_, _++_}
+use Prim.Native.Nat.{ℕ, zero, suc, _+_, _≤_, _<_}
+use native.Mathlib.Numerals.{add-one}
+use native.Mathlib.Decide.{decLt}
+use native.Mathlib.Omega.{arith}
+use lib.ListN.{length, getD, length-append, List·getD-append, List·getD-eq-default}
+use lib.Seq.{getD-at, ext-getD}
+use Rattle.general.specs.Sums.{sumOver, sum, sumTo}
+use Rattle.general.specs.Tables.{tab}
+use Rattle.general.proofs.Sums.{sum-append}
+
+module _ {A : Type 0} (f : ℕ → A) where
+  pub tab-length : (n : ℕ) → length (tab n f) ≡ n
+  unfolding tab
+  tab-length zero = refl
+  tab-length (suc n) = length-append (tab n f) (f n ∷ []) ∙ rw (tab-length n) (add-one n)
+
+  pub tab-at : (n j : ℕ) (d : A) → j < n → getD (tab n f) j d ≡ f j
+  unfolding tab
+  tab-at zero j d h = absurd (omega arith)
+  tab-at (suc n) j d h = pick (decLt j n) (tab-at n j d)
+    where
+      pick : Dec (j < n) → (j < n → getD (tab n f) j d ≡ f j) → getD (tab n f ++ (f n ∷ [])) j d ≡ f j
+      pick (yes k) ih = List·getD-append (tab n f) (f n ∷ []) d j (rw (tab-length n) k) ∙ ih k
+      pick (no k) ih = let e : j ≡ n = omega arith in rw e (getD-at (tab n f) (f n) [] d n (tab-length n))
+
+  -- past its end a table gives the default
+  pub tab-past : (n j : ℕ) (d : A) → n ≤ j → getD (tab n f) j d ≡ d
+  tab-past n j d h = List·getD-eq-default (tab n f) d {n = j} (rw (tab-length n) h)
+
+module _ {A : Type 0} where
+  pub tab-same : (n : ℕ) (f g : ℕ → A) → ((j : ℕ) → j < n → f j ≡ g j) → tab n f ≡ tab n g
+  unfolding tab
+  tab-same zero f g h = refl
+  tab-same (suc n) f g h = λ z. tab-same n f g (λ j l. h j (omega arith)) z ++ (h n (omega arith) z ∷ [])
+
+  -- a list is the table of its elements
+  pub tab-of : (l : List A) (d : A) (n : ℕ) (f : ℕ → A) → length l ≡ n → ((i : ℕ) → i < n → f i ≡ getD l i d) → tab n f ≡ l
+  tab-of l d n f e h = ext-getD d (tab n f) l (tab-length f n ∙ sym e) (λ i k. let j : i < n = rw (tab-length f n) at k in tab-at f n i d j ∙ h i j)
+
+pub sum-tab : (n : ℕ) (f : ℕ → ℕ) → sum (tab n f) ≡ sumTo n f
+unfolding tab sumTo sumOver
+sum-tab zero f = refl
+sum-tab (suc n) f = omega (arith, sum-append (λ x. x) (tab n f) (f n), sum-tab n f)

@@ -1,0 +1,39 @@
+-- Tests on numbers and lists, and the first number that passes or fails one.
+use mathlib.Core.Bool.{Bool, true, false, not, _||_}
+use mathlib.Core.List.{List, [], _∷_}
+use mathlib.Core.Option.{Option, none, some}
+use Prim.Native.Nat.{ℕ, zero, suc}
+use lib.Dec.{leb, eqb}
+
+infixl 35 _and_
+-- a conjunction that stays shut, so that a proof can take it apart without naming its sides
+unfoldable pub _and_ : Bool → Bool → Bool
+true and b = b
+false and b = false
+
+-- a ≤ x ≤ c
+unfoldable pub between : ℕ → ℕ → ℕ → Bool
+between a x c = leb a x and leb x c
+
+-- whether the list holds the number
+unfoldable pub has : ℕ → List ℕ → Bool
+has i [] = false
+has i (x ∷ xs) = eqb i x || has i xs
+
+-- the first of the numbers i, i + 1, .., n of them, that passes the test
+unfoldable pub firstAt : ℕ → ℕ → (ℕ → Bool) → Option ℕ
+firstAt zero i t = none
+firstAt (suc n) i t = elim (t i) [ true ↦ some i | false ↦ firstAt n (suc i) t ]
+
+-- the first number below n that fails the test: the first at fault
+unfoldable pub firstFault : ℕ → (ℕ → Bool) → Option ℕ
+firstFault n ok = firstAt n 0 (λ i. not (ok i))
+
+-- whether all numbers below n pass
+unfoldable pub allTo : ℕ → (ℕ → Bool) → Bool
+allTo zero t = true
+allTo (suc n) t = allTo n t and t n
+
+abbrev pub isSome : {A : Type 0} → Option A → Bool
+isSome none = false
+isSome (some x) = true

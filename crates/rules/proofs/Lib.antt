@@ -1,0 +1,12 @@
+pub mod Path
+pub mod River
+pub mod Splits
+pub mod Stages
+pub mod Months
+pub mod Reservoirs
+pub mod Pending
+pub mod Sums
+pub mod Bounds
+pub mod October
+pub mod Theorems
+pub mod Marked

@@ -1,0 +1,53 @@
+-- The list marked M and the cases beside it, computed. Assumes nothing.
+use mathlib.Core.Path.{_≡_, refl}
+use mathlib.Core.Bool.{Bool, true, false}
+use Prim.Native.Nat.{ℕ, _/_, _%_, _^_}
+use native.Mathlib.Nat.{zero-div}
+use Rattle.general.specs.Sums.{sumOver, sumOverℤ, sumTo, sumToℤ}
+use Rattle.general.specs.Tables.{tab}
+use Rattle.general.specs.Tests.{_and_, has, firstAt}
+use Rattle.rules.specs.Path.{carriesOn, rowBelow, walk, path, untilRow}
+use Rattle.rules.specs.River.{diverted, reserved, released, returned, along, lowest, lesser}
+use Rattle.rules.specs.Returns.{consumption, returning, sharesFrom, shares, partsAt, partsOf, lagged, returnNow, returnedAt}
+use Rattle.rules.specs.Turn.{bit, scheduled, demand, anyOn, called, divertible, riverPart, withLevels, afterDiversion, riverStage, storagePart, storageStage, returnStage, shortage, reasonOf, keepIf, lowestOn, lowRows, numberAt, controlling, turn}
+use Rattle.rules.specs.Month.{gathered, openingLevels, opening, turns, afterTurns, consumedBy, returnedBy, returnsAt, areaFrom, areaAt, evaporation, evaporations, evaporated, nextMonth, month, reasonNumber, isShort, shortCount}
+use Rattle.rules.specs.Tally.{listsFit, overLimit, overAnswer, judged, refusal, freshCarried, fresh, pendingFrom, pending, arriving, nextRun, accept, afterJudged, afterCall, afterCalls, answerJudged, answerOf, answers}
+use Rattle.rules.specs.Water.{totalOutflow, totalConsumption, inTransit}
+use Rattle.rules.specs.Marked.{Marked, Told, Computed}
+
+pub computed : Computed
+unfolding sumOver sumOverℤ sumTo tab _and_ has firstAt carriesOn rowBelow walk path untilRow diverted reserved released returned along lowest lesser consumption returning sharesFrom shares partsAt partsOf lagged returnNow returnedAt bit scheduled demand anyOn called divertible riverPart withLevels afterDiversion riverStage storagePart storageStage returnStage shortage reasonOf keepIf lowestOn lowRows numberAt controlling turn gathered openingLevels opening turns afterTurns consumedBy returnedBy returnsAt areaFrom areaAt evaporation evaporations evaporated nextMonth month reasonNumber isShort shortCount listsFit overLimit overAnswer judged refusal freshCarried fresh pendingFrom pending arriving nextRun accept afterJudged afterCall afterCalls answerJudged answerOf answers totalOutflow totalConsumption inTransit
+computed = record {
+  marked = record {
+    october-answer = refl;
+    october-grants = refl;
+    october-levels = refl;
+    october-evaporation = refl;
+    october-carried = refl;
+    october-pending = refl;
+    october-in-transit = refl;
+    october-outflow = refl;
+    october-consumption = refl;
+    split-805 = refl;
+    split-1 = refl;
+    split-0 = refl;
+    consumption-1 = refl;
+    area-1999 = refl;
+    area-2000 = refl;
+    area-7500 = refl;
+    no-month = λ m. rw (zero-div (2 ^ m));
+    below-100 = refl;
+  };
+  told = record {
+    path-by-order = refl;
+    called-gets-none = refl;
+    called-leaves = refl;
+    draw-ends = refl;
+    evaporation-ends = refl;
+    filled-once = refl;
+    filled-mark = refl;
+    october-clears-marks = refl;
+    october-clears-taken = refl;
+    refusals = refl;
+  };
+}

@@ -1,0 +1,155 @@
+-- The water of a list of calls. Assumes nothing.
+use mathlib.Core.Path.{_≡_, refl, sym, ap, _∙_}
+use mathlib.Core.Bool.{Bool, true, false}
+use mathlib.Core.List.{List, [], _∷_, _++_, map}
+use mathlib.Core.Option.{Option, none, some}
+use Prim.Native.Nat.{ℕ, zero, suc, _+_, _-_, _≤_, _<_}
+use native.Mathlib.Omega.{arith}
+use lib.ListN.{length, getD, length-map, List·getD-map}
+use lib.IntN.{ℤ, pos, _+ℤ_, _-ℤ_}
+use Rattle.general.specs.Sums.{sumOver, sumOverℤ, sum, sumTo, sumToℤ, only}
+use Rattle.general.specs.Tables.{All}
+use Rattle.general.proofs.Signed.{up, dn, add-law, eq-make, lower-law}
+use Rattle.general.proofs.Tests.{eq-of, both-of}
+use Rattle.general.proofs.Lists.{all-append}
+use Rattle.general.proofs.Sums.{sum-append, sumℤ-append, sum-map, sumTo-add, sumTo-list, sumToℤ-pos}
+use Rattle.rules.specs.Basin.{Reservoir, Right, Basin, noReservoir, rows, reservoirAt}
+use Rattle.rules.specs.Path.{lastRow}
+use Rattle.rules.specs.River.{flowAt}
+use Rattle.rules.specs.Turn.{Turn}
+use Rattle.rules.specs.Month.{consumedBy, MonthRun, month}
+use Rattle.rules.specs.Tally.{Call, Answer, listsFit, judged, refusal, Tally, freshCarried, fresh, pending, arriving, nextRun, accept, afterJudged, afterCall, afterCalls}
+use Rattle.rules.specs.Water.{totalRunoff, totalOutflow, totalConsumption, totalEvaporation, inTransit, startingStorage, storedIn, drawnFrom, totalStored, totalDrawn, totalLost, storageNow, allStorageNow, MonthSound, WaterKept}
+use Rattle.rules.specs.Accepted.{Accepted}
+use Rattle.rules.proofs.Stages.{outflow}
+use Rattle.rules.proofs.Months.{laterAll, MonthOk, month-ok}
+use Rattle.rules.proofs.Reservoirs.{month-entry}
+use Rattle.rules.proofs.Pending.{transit-on, transit-none, arriving-sum}
+
+-- an accepted call has one runoff number to a row
+pub judged-none : (t : Bool) (runoff : List ℕ) → judged t runoff ≡ none → t ≡ true
+unfolding judged
+judged-none true runoff e = refl
+judged-none false runoff e = absurd (let z : _≡_ {A = ℕ} 0 1 = cc in omega arith)
+
+accepted-length : (b : Basin) (c : Call) → refusal b c ≡ none → length (c .runoff) ≡ rows b
+unfolding refusal listsFit
+accepted-length b c e = eq-of (both-of (judged-none _ (c .runoff) e) .0)
+
+-- ---- what holds of the tally after every list of calls
+
+pub record TallyOk (b : Basin) (t : Tally) : Type 0 where
+  pub count : length ((t .carried) .storages) ≡ length (b .reservoirs)
+  pub balance : up (totalOutflow b (t .months)) + totalConsumption (t .months) + totalEvaporation (t .months) + inTransit b (t .months) + sum ((t .carried) .storages)
+      ≡ dn (totalOutflow b (t .months)) + totalRunoff (t .months) + startingStorage b
+  pub checkpoints : All (MonthSound b) (t .months)
+  pub entries : (v : ℕ) → getD ((t .carried) .storages) v 0 + totalDrawn v (t .months) + totalLost v (t .months) ≡ (reservoirAt b v) .start + totalStored v (t .months)
+
+pub fresh-ok : (b : Basin) → TallyOk b (fresh b)
+unfolding fresh freshCarried totalOutflow totalConsumption totalEvaporation totalRunoff startingStorage totalStored totalDrawn totalLost sumOver sumOverℤ
+fresh-ok b = record {
+  count = length-map (b .reservoirs) _;
+  balance = omega (arith, transit-none b, sum-map (λ (v : Reservoir). v .start) (b .reservoirs));
+  checkpoints = tt;
+  entries = λ v. omega (arith, List·getD-map (λ (x : Reservoir). x .start) (b .reservoirs) v noReservoir);
+}
+
+module _ (b : Basin) (hs : List MonthRun) (h : MonthRun) where
+  runoff-on : totalRunoff (hs ++ (h ∷ [])) ≡ totalRunoff hs + sum (h .runoff)
+  unfolding totalRunoff
+  runoff-on = sum-append _ hs h
+
+  consumption-on : totalConsumption (hs ++ (h ∷ [])) ≡ totalConsumption hs + sumOver consumedBy (h .turns)
+  unfolding totalConsumption
+  consumption-on = sum-append _ hs h
+
+  evaporation-on : totalEvaporation (hs ++ (h ∷ [])) ≡ totalEvaporation hs + sum (h .evaporation)
+  unfolding totalEvaporation
+  evaporation-on = sum-append _ hs h
+
+  outflow-on : up (totalOutflow b (hs ++ (h ∷ []))) + dn (totalOutflow b hs) + dn (outflow b (h .closed)) ≡ dn (totalOutflow b (hs ++ (h ∷ []))) + up (totalOutflow b hs) + up (outflow b (h .closed))
+  unfolding totalOutflow
+  outflow-on = sumℤ-append (λ (x : MonthRun). flowAt ((x .closed) .levels) (lastRow b)) hs h
+
+  stored-on : (v : ℕ) → totalStored v (hs ++ (h ∷ [])) ≡ totalStored v hs + storedIn v (h .turns)
+  unfolding totalStored
+  stored-on v = sum-append _ hs h
+
+  drawn-on : (v : ℕ) → totalDrawn v (hs ++ (h ∷ [])) ≡ totalDrawn v hs + drawnFrom v (h .turns)
+  unfolding totalDrawn
+  drawn-on v = sum-append _ hs h
+
+  lost-on : (v : ℕ) → totalLost v (hs ++ (h ∷ [])) ≡ totalLost v hs + getD (h .evaporation) v 0
+  unfolding totalLost
+  lost-on v = sum-append _ hs h
+
+month-runoff : (b : Basin) (t : Tally) (c : Call) → (nextRun b t c) .runoff ≡ c .runoff
+unfolding nextRun month
+month-runoff b t c = refl
+
+accept-ok : (b : Basin) → Accepted b → (t : Tally) (c : Call) → length (c .runoff) ≡ rows b → TallyOk b t → TallyOk b (accept b t c)
+unfolding accept nextRun
+accept-ok b acc t c n o =
+    let hs : List MonthRun = t .months in
+    let h : MonthRun = month b (t .carried) (c .runoff) (arriving b hs) in
+    let k : MonthOk b (t .carried) (c .runoff) (arriving b hs) h = month-ok b acc (t .carried) (o .count) (c .runoff) (arriving b hs) in
+    record {
+      count = k .storages;
+      balance = omega (
+        arith,
+        o .balance,
+        k .water,
+        runoff-on b hs h,
+        ap sum (month-runoff b t c),
+        evaporation-on b hs h,
+        consumption-on b hs h,
+        outflow-on b hs h,
+        transit-on b hs h,
+        rw n at (sumTo-list (c .runoff)),
+        arriving-sum b hs,
+        sumTo-add (rows b) (λ j. getD (c .runoff) j 0) (λ j. getD (arriving b hs) j 0),
+      );
+      checkpoints = all-append (MonthSound b) hs h (o .checkpoints) (k .sound);
+      entries = λ v. omega (arith, o .entries v, stored-on b hs h v, drawn-on b hs h v, lost-on b hs h v, month-entry b acc (t .carried) (o .count) (c .runoff) (arriving b hs) v);
+    }
+
+pub call-ok : (b : Basin) → Accepted b → (t : Tally) (c : Call) → TallyOk b t → TallyOk b (afterCall b t c)
+unfolding afterCall afterJudged
+call-ok b acc t c o = go (refusal b c) refl
+  where
+    go : (v : Option Answer) → refusal b c ≡ v → TallyOk b (afterJudged v b t c)
+    go none e = accept-ok b acc t c (accepted-length b c e) o
+    go (some a) e = o
+
+pub calls-ok : (b : Basin) → Accepted b → (t : Tally) (cs : List Call) → TallyOk b t → TallyOk b (afterCalls b t cs)
+unfolding afterCalls
+calls-ok b acc t [] o = o
+calls-ok b acc t (c ∷ cs) o = calls-ok b acc (afterCall b t c) cs (call-ok b acc t c o)
+
+-- ---- the claim
+
+module _ (b : Basin) (t : Tally) (o : TallyOk b t) where
+  -- the storage by the grants is the storage kept
+  storage-kept : (v : ℕ) → storageNow b (t .months) v ≡ pos (getD ((t .carried) .storages) v 0)
+  unfolding storageNow
+  storage-kept v =
+      let x : ℤ = pos ((reservoirAt b v) .start + totalStored v (t .months)) in
+      eq-make (omega (arith, o .entries v, lower-law x (totalDrawn v (t .months)), lower-law (x -ℤ pos (totalDrawn v (t .months))) (totalLost v (t .months))))
+
+  storages-kept : allStorageNow b (t .months) ≡ pos (sum ((t .carried) .storages))
+  unfolding allStorageNow
+  storages-kept =
+      sumToℤ-pos (length (b .reservoirs)) (storageNow b (t .months)) (λ v. getD ((t .carried) .storages) v 0) storage-kept
+      ∙ ap pos (rw (o .count) at (sumTo-list ((t .carried) .storages)))
+
+  balance-kept : pos (totalRunoff (t .months) + startingStorage b)
+      ≡ totalOutflow b (t .months) +ℤ pos (totalConsumption (t .months)) +ℤ pos (totalEvaporation (t .months)) +ℤ pos (inTransit b (t .months)) +ℤ pos (sum ((t .carried) .storages))
+  balance-kept =
+      let x : ℤ = totalOutflow b (t .months) in
+      let c : ℤ = pos (totalConsumption (t .months)) in
+      let e : ℤ = pos (totalEvaporation (t .months)) in
+      let i : ℤ = pos (inTransit b (t .months)) in
+      eq-make (omega (arith, o .balance, add-law x c, add-law (x +ℤ c) e, add-law (x +ℤ c +ℤ e) i, add-law (x +ℤ c +ℤ e +ℤ i) (pos (sum ((t .carried) .storages)))))
+
+  pub water-kept : WaterKept b t
+  water-kept = record { balance = rw storages-kept balance-kept; storages = storage-kept; checkpoints = o .checkpoints }

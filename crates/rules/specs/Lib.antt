@@ -1,0 +1,12 @@
+pub mod Basin
+pub mod Path
+pub mod River
+pub mod Returns
+pub mod Turn
+pub mod Month
+pub mod Tally
+pub mod Water
+pub mod Accepted
+pub mod October
+pub mod Theorems
+pub mod Marked

@@ -1,0 +1,152 @@
+-- 01's list marked M, as one claim: each field is an item. After it, as a second claim, small cases that October does not tell apart from a slip.
+use mathlib.Core.Path.{_≡_}
+use mathlib.Core.Bool.{Bool, true, false}
+use mathlib.Core.List.{List, [], _∷_, map}
+use mathlib.Core.Option.{Option, some}
+use Prim.Native.Nat.{ℕ, suc}
+use lib.ListN.{replicate, getD}
+use lib.IntN.{ℤ, pos}
+use Rattle.general.specs.Tables.{tab}
+use Rattle.rules.specs.Basin.{Station, Survey, Reservoir, Kind, direct, project, instream, storage, Right, Basin}
+use Rattle.rules.specs.Path.{rowBelow, path}
+use Rattle.rules.specs.River.{Level}
+use Rattle.rules.specs.Returns.{consumedAt, shares}
+use Rattle.rules.specs.Turn.{State, met, calledOut, riverLow, storageOut, Grant, scheduled}
+use Rattle.rules.specs.Month.{Carried, opening, grantsOf, areaAt, MonthRun}
+use Rattle.rules.specs.Tally.{Call, Answer, Tally, fresh, pending, nextRun, afterCalls, answers}
+use Rattle.rules.specs.Water.{totalOutflow, totalConsumption, totalEvaporation, inTransit}
+use Rattle.rules.specs.October.{allMonths, plainRight, storageRight, returningRight, octoberStations, octoberReservoir, october, octoberCall}
+
+abbrev pub level : ℕ → ℕ → Level
+level flow available = record { flow = pos flow; available = pos available }
+
+abbrev pub afterOctober : Tally
+afterOctober = afterCalls october (fresh october) (octoberCall ∷ [])
+
+abbrev pub octoberRun : MonthRun
+octoberRun = nextRun october (fresh october) octoberCall
+
+-- ---- the list marked M
+
+pub record Marked : Type 0 where
+  -- this October: 0 and two rights short
+  pub october-answer : answers october (fresh october) (octoberCall ∷ []) ≡ record { number = 0; place = 2 } ∷ []
+  pub october-grants : grantsOf (octoberRun .turns) ≡
+      record { fromRiver = 1500; fromStorage = 0; reason = met; stations = 0 ∷ [] }
+      ∷ record { fromRiver = 1201; fromStorage = 0; reason = met; stations = 0 ∷ [] }
+      ∷ record { fromRiver = 701; fromStorage = 0; reason = riverLow; stations = 300 ∷ [] }
+      ∷ record { fromRiver = 0; fromStorage = 600; reason = met; stations = 0 ∷ [] }
+      ∷ record { fromRiver = 0; fromStorage = 0; reason = calledOut; stations = 100 ∷ [] }
+      ∷ []
+  pub october-levels : (octoberRun .closed) .levels ≡ level 1899 1299 ∷ level 798 798 ∷ level 0 0 ∷ []
+  pub october-evaporation : octoberRun .evaporation ≡ 50 ∷ []
+  pub october-carried : afterOctober .carried ≡ record { m = 1; storages = 1051 ∷ []; marks = false ∷ []; taken = 0 ∷ 0 ∷ 701 ∷ 0 ∷ 0 ∷ [] }
+  -- of 805 that return at the last row, 242 are pending for November and 161 for December: 403 in all
+  pub october-pending : tab 3 (λ w. tab 11 (λ k. pending october (afterOctober .months) w (suc k))) ≡ replicate 11 0 ∷ replicate 11 0 ∷ (242 ∷ 161 ∷ replicate 9 0) ∷ []
+  pub october-in-transit : inTransit october (afterOctober .months) ≡ 403
+  pub october-outflow : totalOutflow october (afterOctober .months) ≡ pos 0
+  pub october-consumption : totalConsumption (afterOctober .months) ≡ 2496
+  -- splitting
+  pub split-805 : shares 805 (50 ∷ 30 ∷ 20 ∷ []) ≡ 402 ∷ 242 ∷ 161 ∷ []
+  pub split-1 : shares 1 (50 ∷ 30 ∷ 20 ∷ []) ≡ 0 ∷ 0 ∷ 1 ∷ []
+  pub split-0 : shares 0 (50 ∷ 30 ∷ 20 ∷ []) ≡ 0 ∷ 0 ∷ 0 ∷ []
+  -- consumption of 1 at 33
+  pub consumption-1 : consumedAt 1 33 ≡ 0
+  -- areas
+  pub area-1999 : areaAt octoberReservoir 1999 ≡ 10
+  pub area-2000 : areaAt octoberReservoir 2000 ≡ 20
+  pub area-7500 : areaAt octoberReservoir 7500 ≡ 40
+  -- months word 0 asks 0
+  pub no-month : (m : ℕ) → scheduled m (record { permit = 1; date = 18900501; kind = direct; row = 0; reservoir = 255; efficiency = 100; pattern = 255; months = 0; limit = 0; amounts = replicate 12 100; points = [] }) ≡ 0
+  -- the row below 100 is 200
+  pub below-100 : rowBelow octoberStations 0 ≡ some 1
+
+-- ---- cases that October misses
+
+-- Orders 2, 3, 2, 1: the river of the first row passes the second by.
+abbrev pub branchedStations : List Station
+branchedStations = record { number = 10; order = 2 } ∷ record { number = 20; order = 3 } ∷ record { number = 30; order = 2 } ∷ record { number = 40; order = 1 } ∷ []
+
+abbrev pub twoStations : List Station
+twoStations = record { number = 100; order = 1 } ∷ record { number = 200; order = 1 } ∷ []
+
+-- a lake at the first row, with an area of 10 acres at any storage, and 5 hundredths of a foot evaporated in each month
+abbrev pub lake : ℕ → ℕ → ℕ → Reservoir
+lake capacity start depth = record {
+  row = 0;
+  capacity = capacity;
+  start = start;
+  surveys = record { content = 0; area = 10 } ∷ record { content = 1; area = 10 } ∷ record { content = 2; area = 10 } ∷ record { content = 3; area = 10 } ∷ [];
+  depths = replicate 12 depth;
+}
+
+-- A senior at the second row lacks water. A project right at the first row, called, lives from storage and returns all of it at once. A junior at the first row finds water in the river, and gets none, for it is called.
+abbrev pub calledBasin : Basin
+calledBasin = record {
+  stations = twoStations;
+  reservoirs = lake 1000 500 0 ∷ [];
+  patterns = (100 ∷ replicate 11 0) ∷ [];
+  rights = plainRight 1 18900101 direct 1 255 150 ∷ returningRight 2 18910101 project 0 0 50 0 0 ∷ plainRight 3 18920101 direct 0 255 10 ∷ [];
+}
+
+-- A project right asks for more than the storage holds.
+abbrev pub drawnBasin : Basin
+drawnBasin = record {
+  stations = twoStations;
+  reservoirs = lake 1000 100 0 ∷ [];
+  patterns = [];
+  rights = plainRight 1 18900101 project 1 0 600 ∷ [];
+}
+
+-- 10 acres lose 50 units a month; the lake holds 30.
+abbrev pub shallowBasin : Basin
+shallowBasin = record { stations = twoStations; reservoirs = lake 1000 30 5 ∷ []; patterns = []; rights = [] }
+
+-- October fills the lake and a project right draws 30 from it; in November it may not be stored into again.
+abbrev pub filledBasin : Basin
+filledBasin = record {
+  stations = twoStations;
+  reservoirs = lake 100 0 0 ∷ [];
+  patterns = [];
+  rights = storageRight 1 18900101 0 0 100 1000 ∷ plainRight 2 18910101 project 1 0 30 ∷ [];
+}
+
+abbrev pub sheet : ℕ → ℕ → Call
+sheet x y = record { runoff = x ∷ y ∷ []; report = 27 }
+
+abbrev pub grantsIn : Basin → List Call → Call → List Grant
+grantsIn b before c = grantsOf ((nextRun b (afterCalls b (fresh b) before) c) .turns)
+
+-- an October that begins with water taken and a filled mark
+abbrev pub secondOctober : State
+secondOctober = opening filledBasin (record { m = 0; storages = 70 ∷ []; marks = true ∷ []; taken = 100 ∷ 0 ∷ [] }) (100 ∷ 0 ∷ []) (0 ∷ 0 ∷ [])
+
+pub record Told : Type 0 where
+  -- the path goes by order, not by the next row
+  pub path-by-order : path branchedStations 0 ≡ 0 ∷ 2 ∷ 3 ∷ []
+  -- a called right gets no river part, though 50 pass
+  pub called-gets-none : grantsIn calledBasin [] (sheet 100 0) ≡
+      record { fromRiver = 100; fromStorage = 0; reason = riverLow; stations = 200 ∷ [] }
+      ∷ record { fromRiver = 0; fromStorage = 50; reason = met; stations = 0 ∷ [] }
+      ∷ record { fromRiver = 0; fromStorage = 0; reason = calledOut; stations = 200 ∷ [] }
+      ∷ []
+  pub called-leaves : (nextRun calledBasin (fresh calledBasin) (sheet 100 0)) .closed .levels ≡ level 150 150 ∷ level 50 50 ∷ []
+  -- a draw ends with the storage
+  pub draw-ends : grantsIn drawnBasin [] (sheet 0 0) ≡ record { fromRiver = 0; fromStorage = 100; reason = storageOut; stations = 100 ∷ [] } ∷ []
+  -- evaporation ends with the storage
+  pub evaporation-ends : (nextRun shallowBasin (fresh shallowBasin) (sheet 0 0)) .evaporation ≡ 30 ∷ []
+  -- one fill a year: the mark stands after a release
+  pub filled-once : grantsIn filledBasin (sheet 100 0 ∷ []) (sheet 100 0) ≡
+      record { fromRiver = 0; fromStorage = 0; reason = met; stations = 0 ∷ [] } ∷ record { fromRiver = 30; fromStorage = 0; reason = met; stations = 0 ∷ [] } ∷ []
+  pub filled-mark : (afterCalls filledBasin (fresh filledBasin) (sheet 100 0 ∷ [])) .carried ≡ record { m = 1; storages = 70 ∷ []; marks = true ∷ []; taken = 100 ∷ 0 ∷ [] }
+  -- October clears marks and taken
+  pub october-clears-marks : secondOctober .marks ≡ false ∷ []
+  pub october-clears-taken : secondOctober .taken ≡ 0 ∷ 0 ∷ []
+  -- refusals: 6 for a short sheet or report, 8 with the first row over the limit; they change nothing
+  pub refusals : answers filledBasin (fresh filledBasin) (record { runoff = 100 ∷ []; report = 27 } ∷ record { runoff = 0 ∷ 0 ∷ []; report = 12 } ∷ sheet 0 1_000_000_001 ∷ sheet 1_000_000_001 1_000_000_001 ∷ sheet 100 0 ∷ [])
+      ≡ record { number = 6; place = 0 } ∷ record { number = 6; place = 0 } ∷ record { number = 8; place = 1 } ∷ record { number = 8; place = 0 } ∷ record { number = 0; place = 0 } ∷ []
+
+-- both, computed in one place: proofs/Marked.antt
+pub record Computed : Type 0 where
+  pub marked : Marked
+  pub told : Told

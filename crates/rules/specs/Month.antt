@@ -1,0 +1,132 @@
+-- One month: steps 1 to 5 of 01.
+use mathlib.Core.Bool.{Bool, true, false, not, cond}
+use mathlib.Core.List.{List, [], _∷_, map}
+use Prim.Native.Nat.{ℕ, suc, _+_, _-_, _*_, min}
+use lib.Dec.{leb, eqb}
+use lib.ListN.{length, getD, replicate}
+use lib.IntN.{ℤ, pos}
+use Rattle.general.specs.Sums.{sumOver, sumTo, only}
+use Rattle.general.specs.Tables.{tab}
+use Rattle.general.specs.Tests.{has}
+use Rattle.rules.specs.Basin.{Survey, Reservoir, Right, Basin, rows, reservoirAt, patternOf}
+use Rattle.rules.specs.Path.{path}
+use Rattle.rules.specs.River.{Level}
+use Rattle.rules.specs.Returns.{consumption, Part, partsOf, returnedAt}
+use Rattle.rules.specs.Turn.{State, Reason, met, calledOut, riverLow, storageOut, Grant, granted, Turn, turn}
+
+-- What is carried from month to month, but for the returns on their way: the next month m, storages, filled marks, water taken this year.
+pub record Carried : Type 0 where
+  pub m : ℕ
+  pub storages : List ℕ
+  pub marks : List Bool
+  pub taken : List ℕ
+
+-- ---- steps 1 and 2: the river before the first right
+
+-- At a row flow is runoff plus the returns that arrive, summed over all rows whose path holds it.
+unfoldable pub gathered : Basin → List ℕ → List ℕ → ℕ → ℕ
+gathered b runoff arriving i = sumTo (rows b) (λ j. only (has i (path (b .stations) j)) (getD runoff j 0 + getD arriving j 0))
+
+-- Available flow starts equal to flow.
+unfoldable pub openingLevels : Basin → List ℕ → List ℕ → List Level
+openingLevels b runoff arriving = tab (rows b) (λ i. let z : ℤ = pos (gathered b runoff arriving i) in record { flow = z; available = z })
+
+-- At m = 0 taken and marks become 0. Nobody is short yet.
+unfoldable pub opening : Basin → Carried → List ℕ → List ℕ → State
+opening b c runoff arriving = record {
+  levels = openingLevels b runoff arriving;
+  storages = c .storages;
+  marks = cond (eqb (c .m) 0) (replicate (length (b .reservoirs)) false) (c .marks);
+  taken = cond (eqb (c .m) 0) (replicate (length (b .rights)) 0) (c .taken);
+  short = replicate (rows b) false;
+}
+
+-- ---- step 3: each right in list order
+
+-- the turns of the rights rs, which stand from place i on
+unfoldable pub turns : Basin → ℕ → ℕ → List Right → State → List Turn
+turns b m i [] s = []
+turns b m i (r ∷ rs) s = let t : Turn = turn b m i r s in t ∷ turns b m (suc i) rs (t .after-returns)
+
+unfoldable pub afterTurns : List Turn → State → State
+afterTurns [] s = s
+afterTurns (t ∷ ts) s = afterTurns ts (t .after-returns)
+
+abbrev pub grantsOf : List Turn → List Grant
+grantsOf ts = map (λ (t : Turn). t .grant) ts
+
+-- of a turn: its consumption, and what of it returns at row w, s months after
+unfoldable pub consumedBy : Turn → ℕ
+consumedBy t = consumption ((t .right) .kind) (t .right) (granted (t .grant))
+
+unfoldable pub returnedBy : Basin → ℕ → ℕ → Turn → ℕ
+returnedBy b w s t = returnedAt (patternOf b (t .right)) w s (partsOf ((t .right) .kind) (t .right) (granted (t .grant)))
+
+unfoldable pub returnsAt : Basin → List Turn → ℕ → ℕ → ℕ
+returnsAt b ts w s = sumOver (returnedBy b w s) ts
+
+-- ---- step 4: evaporation
+
+-- the area at a storage: that of the highest table pair whose storage is not above it
+unfoldable pub areaFrom : ℕ → List Survey → ℕ → ℕ
+areaFrom found [] x = found
+areaFrom found (p ∷ ps) x = areaFrom (cond (leb (p .content) x) (p .area) found) ps x
+
+unfoldable pub areaAt : Reservoir → ℕ → ℕ
+areaAt v x = areaFrom 0 (v .surveys) x
+
+-- area × depth of month m, at most the storage
+unfoldable pub evaporation : ℕ → Reservoir → ℕ → ℕ
+evaporation m v x = min x (areaAt v x * getD (v .depths) m 0)
+
+unfoldable pub evaporations : Basin → ℕ → List ℕ → List ℕ
+evaporations b m storages = tab (length (b .reservoirs)) (λ v. evaporation m (reservoirAt b v) (getD storages v 0))
+
+unfoldable pub evaporated : Basin → List ℕ → List ℕ → List ℕ
+evaporated b storages losses = tab (length (b .reservoirs)) (λ v. getD storages v 0 - getD losses v 0)
+
+-- ---- the whole month
+
+-- A month run: its runoff; the river before the first right; the turns; the state that step 3 leaves; what evaporates; what is carried on.
+pub record MonthRun : Type 0 where
+  pub runoff : List ℕ
+  pub opened : State
+  pub turns : List Turn
+  pub closed : State
+  pub evaporation : List ℕ
+  pub carried : Carried
+
+-- Step 5: m goes on, 11 to 0.
+unfoldable pub nextMonth : ℕ → ℕ
+nextMonth m = cond (eqb m 11) 0 (suc m)
+
+-- with runoff and with the returns that arrive this month, one of each to a row
+unfoldable pub month : Basin → Carried → List ℕ → List ℕ → MonthRun
+month b c runoff arriving =
+    let s : State = opening b c runoff arriving in
+    let ts : List Turn = turns b (c .m) 0 (b .rights) s in
+    let e : State = afterTurns ts s in
+    let losses : List ℕ = evaporations b (c .m) (e .storages) in
+    record {
+      runoff = runoff;
+      opened = s;
+      turns = ts;
+      closed = e;
+      evaporation = losses;
+      carried = record { m = nextMonth (c .m); storages = evaporated b (e .storages) losses; marks = e .marks; taken = e .taken };
+    }
+
+-- ---- what the report and the answer say of it
+
+unfoldable pub reasonNumber : Reason → ℕ
+reasonNumber met = 0
+reasonNumber calledOut = 1
+reasonNumber riverLow = 2
+reasonNumber storageOut = 3
+
+unfoldable pub isShort : Turn → Bool
+isShort t = not (eqb (reasonNumber ((t .grant) .reason)) 0)
+
+-- the number of rights short
+unfoldable pub shortCount : List Turn → ℕ
+shortCount ts = sumOver (λ (t : Turn). only (isShort t) 1) ts

@@ -1,0 +1,105 @@
+-- The terms of the water sum, and what has to hold of a tally (01, "The tally of a list of months").
+use mathlib.Core.Path.{_≡_}
+use mathlib.Core.Bool.{Bool, true, false}
+use mathlib.Core.List.{List, [], _∷_}
+use Prim.Native.Nat.{ℕ, suc, _+_}
+use lib.Dec.{eqb}
+use lib.ListN.{length, getD}
+use lib.IntN.{ℤ, pos, _+ℤ_, _-ℤ_}
+use Rattle.general.specs.Sums.{sumOver, sumOverℤ, sum, sumTo, sumToℤ, only}
+use Rattle.general.specs.Tables.{All}
+use Rattle.rules.specs.Basin.{Reservoir, Kind, direct, project, instream, storage, Right, Basin, rows, reservoirAt}
+use Rattle.rules.specs.Path.{lastRow}
+use Rattle.rules.specs.River.{levelAt, flowAt, Sound}
+use Rattle.rules.specs.Turn.{State, Grant, Turn}
+use Rattle.rules.specs.Month.{consumedBy, MonthRun}
+use Rattle.rules.specs.Tally.{Tally, pending}
+
+-- ---- totals over the accepted months
+
+unfoldable pub totalRunoff : List MonthRun → ℕ
+totalRunoff hs = sumOver (λ (h : MonthRun). sum (h .runoff)) hs
+
+-- outflow: the flow at the last row after step 3
+unfoldable pub totalOutflow : Basin → List MonthRun → ℤ
+totalOutflow b hs = sumOverℤ (λ (h : MonthRun). flowAt ((h .closed) .levels) (lastRow b)) hs
+
+unfoldable pub totalConsumption : List MonthRun → ℕ
+totalConsumption hs = sumOver (λ (h : MonthRun). sumOver consumedBy (h .turns)) hs
+
+unfoldable pub totalEvaporation : List MonthRun → ℕ
+totalEvaporation hs = sumOver (λ (h : MonthRun). sum (h .evaporation)) hs
+
+-- returns still on their way: pending over all rows and k = 1 to 11
+unfoldable pub inTransit : Basin → List MonthRun → ℕ
+inTransit b hs = sumTo (rows b) (λ w. sumTo 11 (λ k. pending b hs w (suc k)))
+
+-- ---- storages, by the grants
+
+unfoldable pub startingStorage : Basin → ℕ
+startingStorage b = sumOver (λ (v : Reservoir). v .start) (b .reservoirs)
+
+-- what a turn stores in reservoir v: the river part of its kind 4 rights
+unfoldable pub storedBy : Kind → ℕ → Turn → ℕ
+storedBy direct v t = 0
+storedBy project v t = 0
+storedBy instream v t = 0
+storedBy storage v t = only (eqb ((t .right) .reservoir) v) ((t .grant) .fromRiver)
+
+-- what a turn draws from it: the reservoir part of its kind 2 rights
+unfoldable pub drawnBy : Kind → ℕ → Turn → ℕ
+drawnBy direct v t = 0
+drawnBy project v t = only (eqb ((t .right) .reservoir) v) ((t .grant) .fromStorage)
+drawnBy instream v t = 0
+drawnBy storage v t = 0
+
+unfoldable pub storedIn : ℕ → List Turn → ℕ
+storedIn v ts = sumOver (λ (t : Turn). storedBy ((t .right) .kind) v t) ts
+
+unfoldable pub drawnFrom : ℕ → List Turn → ℕ
+drawnFrom v ts = sumOver (λ (t : Turn). drawnBy ((t .right) .kind) v t) ts
+
+unfoldable pub totalStored : ℕ → List MonthRun → ℕ
+totalStored v hs = sumOver (λ (h : MonthRun). storedIn v (h .turns)) hs
+
+unfoldable pub totalDrawn : ℕ → List MonthRun → ℕ
+totalDrawn v hs = sumOver (λ (h : MonthRun). drawnFrom v (h .turns)) hs
+
+unfoldable pub totalLost : ℕ → List MonthRun → ℕ
+totalLost v hs = sumOver (λ (h : MonthRun). getD (h .evaporation) v 0) hs
+
+-- A reservoir's storage now: its start + what its kind 4 rights stored − what its kind 2 rights drew − its evaporation.
+unfoldable pub storageNow : Basin → List MonthRun → ℕ → ℤ
+storageNow b hs v = pos ((reservoirAt b v) .start + totalStored v hs) -ℤ pos (totalDrawn v hs) -ℤ pos (totalLost v hs)
+
+unfoldable pub allStorageNow : Basin → List MonthRun → ℤ
+allStorageNow b hs = sumToℤ (length (b .reservoirs)) (storageNow b hs)
+
+-- ---- the checkpoints
+
+-- A level for each row, and at every row 0 ≤ available flow ≤ flow.
+pub record Checkpoint (b : Basin) (s : State) : Type 0 where
+  pub size : length (s .levels) ≡ rows b
+  pub sound : (w : ℕ) → Sound (levelAt (s .levels) w)
+
+-- in each right's turn: after its river part, after its part from storage, after its returns
+pub record TurnSound (b : Basin) (t : Turn) : Type 0 where
+  pub after-river : Checkpoint b (t .after-river)
+  pub after-storage : Checkpoint b (t .after-storage)
+  pub after-returns : Checkpoint b (t .after-returns)
+
+-- and before the first right
+pub record MonthSound (b : Basin) (h : MonthRun) : Type 0 where
+  pub before-first : Checkpoint b (h .opened)
+  pub each-turn : All (TurnSound b) (h .turns)
+
+-- ---- the claim
+
+pub record WaterKept (b : Basin) (t : Tally) : Type 0 where
+  -- runoff + starting storage = outflow + consumption + evaporation + returns on their way + storage now
+  pub balance : pos (totalRunoff (t .months) + startingStorage b)
+      ≡ totalOutflow b (t .months) +ℤ pos (totalConsumption (t .months)) +ℤ pos (totalEvaporation (t .months)) +ℤ pos (inTransit b (t .months)) +ℤ allStorageNow b (t .months)
+  -- each storage by the grants is the storage that the tally keeps
+  pub storages : (v : ℕ) → storageNow b (t .months) v ≡ pos (getD ((t .carried) .storages) v 0)
+  -- 0 ≤ available flow ≤ flow, at every row and checkpoint of every accepted month
+  pub checkpoints : All (MonthSound b) (t .months)
