@@ -1,0 +1,134 @@
+//! The board: its places, which boards are possible, fresh and stock.
+
+use super::check::{judge, Judged, Network, Refusal};
+use super::records::*;
+use super::slip::{Slip, Telling};
+
+/// "The board is 970 numbers of 64 bits".
+pub const BOARD: usize = 970;
+pub const NEXT_MONTH: usize = 0;
+pub const STORAGES: usize = 1;
+pub const MARKS: usize = 9;
+pub const TAKEN: usize = 10;
+pub const DUES: usize = 266;
+/// Dues kept per row, k = 1 to 11.
+pub const LAGS: usize = 11;
+
+/// Place of "the return due there k months after the last finished month".
+pub const fn due(row: usize, k: usize) -> usize {
+    DUES + LAGS * row + (k - 1)
+}
+
+/// Most that can be due at k: 256 rights of 1,000,000,000 in each of the
+/// 12 - k months whose diversions can still return then.
+pub const fn most_due(k: usize) -> u64 {
+    (12 - k as u64) * 256_000_000_000
+}
+
+/// A list whose length is wrong: "6, 0".
+pub const WRONG_LENGTH: Refusal = Refusal { number: 6, place: 0 };
+/// "board not possible | 7 | 7, 0".
+pub const NOT_POSSIBLE: Refusal = Refusal { number: 7, place: 0 };
+
+/// "A board is possible if m < 12, storages are at most capacity, marks name
+/// reservoirs that exist, taken is at most the yearly limit, due at k is at most
+/// (12 − k) × 256,000,000,000, and all places without a reservoir, right or row
+/// are 0."
+pub fn possible<T: Telling>(telling: &T, basin: &Judged, board: &[u64]) -> bool {
+    let Judged { sections, .. } = basin;
+    let rights = sections.rights.len();
+    let reservoirs = sections.reservoirs.len();
+    let rows = sections.stations.len();
+    let month_fits =
+        board[NEXT_MONTH] < 12 || (telling.slips(Slip::BoardAnyMonth) && board[NEXT_MONTH] == 12);
+    let marks_fit = board[MARKS] >> reservoirs == 0 || telling.slips(Slip::BoardMarksAny);
+    let empty_fits = telling.slips(Slip::BoardEmptyPlacesAny)
+        || (all_zero(&board[STORAGES + reservoirs..MARKS])
+            && all_zero(&board[TAKEN + rights..DUES])
+            && all_zero(&board[DUES + LAGS * rows..]));
+    month_fits
+        && marks_fit
+        && empty_fits
+        && storages_fit(telling, basin, board)
+        && taken_fits(telling, basin, board)
+        && (0..rows).all(|row| dues_fit(telling, &board[due(row, 1)..]))
+}
+
+fn all_zero(places: &[u64]) -> bool {
+    places.iter().all(|&number| number == 0)
+}
+
+fn storages_fit<T: Telling>(telling: &T, basin: &Judged, board: &[u64]) -> bool {
+    let reservoirs = basin.sections.reservoirs.iter();
+    telling.slips(Slip::BoardStorageAny)
+        || reservoirs
+            .zip(&board[STORAGES..])
+            .all(|(reservoir, &storage)| storage <= u32_at(reservoir, 4) as u64)
+}
+
+/// The yearly limit of kinds 1 to 3 is 0, so theirs is 0 too.
+fn taken_fits<T: Telling>(telling: &T, basin: &Judged, board: &[u64]) -> bool {
+    let rights = basin.sections.rights.iter();
+    telling.slips(Slip::BoardTakenAny)
+        || rights.zip(&board[TAKEN..]).all(|(right, &taken)| taken <= u32_at(right, 16) as u64)
+}
+
+fn dues_fit<T: Telling>(telling: &T, dues: &[u64]) -> bool {
+    (1..=LAGS).all(|k| {
+        let most = if telling.slips(Slip::BoardDueFlat) {
+            most_due(1)
+        } else if telling.slips(Slip::BoardDueOneLess) {
+            most_due(k + 1)
+        } else {
+            most_due(k)
+        };
+        dues[k - 1] <= most
+    })
+}
+
+/// "Fresh: starting storages, all else 0."
+pub fn fresh<T: Telling>(telling: &T, file: &[u8], board: &mut [u64]) -> (u32, u32) {
+    let mut network = Network::room();
+    let basin = match judge(telling, file, &mut network) {
+        Ok(basin) => basin,
+        Err(refusal) => return refusal.answer(),
+    };
+    if board.len() != BOARD {
+        return WRONG_LENGTH.answer();
+    }
+    if telling.slips(Slip::FreshAddsOntoBoard) {
+        board[..DUES].fill(0);
+    } else {
+        board.fill(0);
+    }
+    for (place, reservoir) in basin.sections.reservoirs.iter().enumerate() {
+        board[STORAGES + place] = u32_at(reservoir, 8) as u64;
+    }
+    (0, 0)
+}
+
+/// "Stock answers four numbers: number and place as in the table (0, 0 if
+/// accepted), then the sum of storages and the sum of dues of a board; refused,
+/// both sums are 0."
+pub fn stock<T: Telling>(telling: &T, file: &[u8], board: &[u64]) -> [u64; 4] {
+    let refused = |refusal: Refusal| [refusal.number as u64, refusal.place as u64, 0, 0];
+    let mut network = Network::room();
+    let basin = match judge(telling, file, &mut network) {
+        Ok(basin) => basin,
+        Err(refusal) => return refused(refusal),
+    };
+    if board.len() != BOARD {
+        return refused(WRONG_LENGTH);
+    }
+    let storages = || board[STORAGES..MARKS].iter().fold(0, |sum: u64, &s| sum.wrapping_add(s));
+    if !possible(telling, &basin, board) {
+        let told = if telling.slips(Slip::RefusedStockTold) { storages() } else { 0 };
+        return [7, 0, told, 0];
+    }
+    let dues = if telling.slips(Slip::StockFirstDueOnly) {
+        board[DUES..].iter().step_by(LAGS).sum()
+    } else {
+        board[DUES..].iter().fold(0, |sum: u64, &d| sum.wrapping_add(d))
+    };
+    [0, 0, storages(), dues]
+}

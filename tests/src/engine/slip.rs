@@ -1,0 +1,170 @@
+//! Deliberately wrong versions of the engine, one rule each.
+//!
+//! The engine asks a [`Telling`] at the places where builders slip. The right
+//! engine runs with [`Faithful`], which answers `false` as a constant, so all
+//! of it is compiled away; a wrong one runs with [`Slipped`].
+
+macro_rules! slips {
+    ($($name:ident: $rule:literal,)*) => {
+        #[derive(Clone, Copy, PartialEq, Eq, Debug)]
+        pub enum Slip { $($name,)* }
+
+        /// Every slip with its name and what it gets wrong.
+        pub const ALL: &[(Slip, &str, &str)] =
+            &[$((Slip::$name, stringify!($name), $rule),)*];
+    };
+}
+
+slips! {
+    // The file.
+    OffsetNotTested: "offsets of the contents are not compared",
+    EndNotTested: "a file longer than its last body is accepted",
+    CountLowByteOnly: "only the low byte of a count is read",
+    StationCountTight: "64 stations are refused",
+    RightCountTight: "256 rights are refused",
+    LastAtFault: "the last at fault is named, not the first",
+    EarlierNeighbourAtFault: "of two stations out of order the earlier is at fault",
+    EqualStationNumbers: "equal station numbers are accepted",
+    StationZerosNotTested: "a station's zero bytes are not tested",
+    OrderNineAccepted: "order 9 is accepted",
+    BelowSkipsBadOrders: "a row with an order out of range is not found as row below",
+    FindsNoneAccepted: "a row without a row below ends its path instead of being refused",
+    LastOrderNotTested: "the last row's order may be other than 1",
+    ReservoirZerosNotTested: "a reservoir's zero bytes are not tested",
+    CapacityZeroAccepted: "capacity 0 is accepted",
+    StartBelowCapacity: "starting storage equal to capacity is refused",
+    TableFromAnywhere: "the first table storage need not be 0",
+    TableMayStand: "equal table storages are accepted",
+    TableWithinCapacity: "table storages above capacity are refused",
+    AreasMustRise: "falling areas are refused",
+    AreaLimitTight: "area 1,000,000 is refused",
+    DepthLimitNotTested: "depths above 1000 are accepted",
+    PatternSumModulo: "a pattern's percents are summed in one byte",
+    UndatedFirst: "undated rights come first",
+    EqualRightsAccepted: "equal date and permit are accepted",
+    PermitsUnique: "permits must rise over all rights",
+    DateAsCalendar: "dates are judged as a calendar",
+    DateAboveRange: "any date up to 99999999 is accepted",
+    NoPointsAnyEfficiency: "a right without points may have an efficiency below 100",
+    NoPointsAnyPattern: "a right without points may name a pattern",
+    UnusedPairsNotTested: "unused return pairs need not be zero",
+    ReturnRowAnywhere: "a return row may lie before the right's row",
+    ReturnRowOnPath: "a return row must lie on the right's path",
+    ReturnPercentZero: "a return point may have 0 percent",
+    ReturnSumModulo: "return percents are summed in one byte",
+    EfficiencyAbove100: "efficiency above 100 is accepted",
+    MonthBitsNotTested: "bits 12-15 of the months word are not tested",
+    LimitForAll: "a yearly limit is accepted for every kind",
+    AmountLimitFirstOnly: "only the first amount is compared with its limit",
+    StorageRowNotCompared: "a storage right need not lie at its reservoir",
+    ProjectOffPath: "a project right need not lie on its reservoir's path",
+    ProjectBelowLake: "a project right at its reservoir's own row is refused",
+    InstreamReservoirNotTested: "an instream right may name a reservoir",
+    // The call.
+    ReportExact: "a report longer than needed is refused",
+    BoardAtLeast: "a board longer than 970 is accepted",
+    RunoffAtLeast: "a runoff list longer than the stations is accepted",
+    RunoffLimitTight: "runoff of exactly 1,000,000,000 is refused",
+    RunoffLastAtFault: "the last row over the runoff limit is named",
+    RunoffBeforeBoard: "runoff over its limit is asked before the board",
+    BoardAnyMonth: "m = 12 is possible",
+    BoardStorageAny: "storage above capacity is possible",
+    BoardMarksAny: "marks may name reservoirs that do not exist",
+    BoardTakenAny: "taken above the yearly limit is possible",
+    BoardDueOneLess: "due at k is at most (11 - k) x 256,000,000,000",
+    BoardDueFlat: "due at k is at most 11 x 256,000,000,000 for every k",
+    BoardEmptyPlacesAny: "places without reservoir, right or row need not be 0",
+    RefusedStockTold: "a refused stock still tells the sum of storages",
+    StockFirstDueOnly: "stock sums only the dues of the next month",
+    FreshAddsOntoBoard: "fresh leaves the dues that stand on the board",
+    ReportTailCleared: "places beyond the report are set to 0",
+    // Steps 1 and 2.
+    OctoberKeepsMarks: "October does not clear the marks",
+    OctoberKeepsTaken: "October does not clear taken",
+    PathByNextRow: "the path goes by the next row, not by order",
+    DuesNotUsed: "returns due at k = 1 are left out of the flow",
+    DuesNotMoved: "the dues do not move one month nearer",
+    DueElevenStays: "k = 11 keeps its content when the dues move",
+    AvailableWithoutReturns: "open water starts without the returns due",
+    // Step 3.
+    MonthBitReversed: "bit 11 - m is looked at for month m",
+    MonthsWordZeroMeansAll: "a months word of 0 means every month",
+    LimitLeftIgnored: "a storage right asks without regard to the limit left",
+    CapacityAtMonthsBeginning: "capacity left is that of the month's beginning",
+    MarkIgnored: "a filled reservoir is stored into again",
+    MarkByZeroGrant: "a grant of 0 marks a full reservoir",
+    MarkNextMonth: "a mark counts only from the next month",
+    TakenNotKept: "taken is not raised",
+    CalledBeforeShort: "a right is called by a senior that is not short",
+    CalledIgnored: "no right is ever called",
+    CalledByOwnRowNot: "a short right at the same row does not call",
+    CalledByUpstream: "a short right upstream calls",
+    InstreamDoesNotCall: "a short instream right does not call",
+    StorageDoesNotCall: "a short storage right does not call",
+    InstreamCalled: "an instream right can be called",
+    InstreamLowersPath: "an instream right lowers open water on its whole path",
+    InstreamLowersFlow: "an instream right lowers flow too",
+    InstreamLooksDownPath: "an instream right is held by the lowest open water on its path",
+    OwnRowOnly: "only open water at the right's own row is looked at",
+    FlowInsteadOfAvailable: "the river part is measured against flow, not open water",
+    CalledProjectWithoutStorage: "a called project right gets no water from storage",
+    StorageFirst: "a project right takes storage first, then the river",
+    DrawAboveStorage: "a project right draws more than is stored",
+    ReleaseRaisesAvailable: "released water raises open water",
+    ReleaseSkipsLakeRow: "a release leaves out the reservoir's row",
+    ReleaseReachesRight: "a release raises flow at the right's row too",
+    ShortByRiverOnly: "a right is short if its river part is below its ask",
+    StorageShortByAmount: "a storage right is short against its full amount",
+    ShortsCountCalled: "the answer counts rights called, not short",
+    // Returns.
+    SharesFlooredAlone: "each share is floored alone",
+    SharesRoundedUp: "running shares are rounded up, not down",
+    MonthsBeforePoints: "returns are split over months, then over points",
+    ConsumptionRoundsUp: "consumption is rounded up",
+    EfficiencyReturns: "the efficient part returns, the rest is consumed",
+    RiverPartReturnsOnly: "only the river part returns water",
+    FirstPointTakesAll: "the first return point gets everything",
+    ReturnFlowOnly: "a return of this month raises flow only",
+    ReturnTwice: "a return of this month is added to open water twice",
+    ReturnAtRowOnly: "a return raises its own row only",
+    ReturnUsedBySenior: "a return is used by a senior already served",
+    DueOneMonthLate: "month k adds to due at k + 1",
+    // Reasons.
+    CalledBeforeStorageLow: "a called short project right gets reason 1",
+    ProjectNamesOwnRow: "reason 3 names the right's station",
+    RiverLowNamesLastRow: "reason 2 names the last row of the path",
+    RiverLowNamesOwnRow: "reason 2 names the right's own row",
+    CalledNamesOwnRow: "reason 1 names the right's own row",
+    // Steps 4 and 5, the report.
+    EvaporationNotCapped: "evaporation may be more than is stored",
+    EvaporationFromOldStorage: "evaporation is reckoned from the storage before step 3",
+    AreaBelowPair: "storage equal to a pair does not reach it",
+    AreaNearestAbove: "area is that of the next pair above",
+    DepthOfNextMonth: "the depth of the next month is used",
+    MonthTwelve: "m goes on from 11 to 12",
+    FlowsThenAvailable: "the report holds all flows, then all open waters",
+}
+
+/// How the rules are told: rightly, or with one slip.
+pub trait Telling {
+    fn slips(&self, slip: Slip) -> bool;
+}
+
+/// The rules as 01 has them.
+pub struct Faithful;
+
+impl Telling for Faithful {
+    #[inline(always)]
+    fn slips(&self, _: Slip) -> bool {
+        false
+    }
+}
+
+/// The rules with one of them wrong.
+pub struct Slipped(pub Slip);
+
+impl Telling for Slipped {
+    fn slips(&self, slip: Slip) -> bool {
+        self.0 == slip
+    }
+}

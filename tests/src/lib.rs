@@ -1,0 +1,16 @@
+//! A plain telling of the river ledger's rules in ordinary Rust, written from
+//! the rules document (01) alone, for comparison with the checked engine.
+//!
+//! * [`engine`]: check, fresh, month, stock; the tally of a list of months.
+//! * [`listing`]: what program `riverrun` prints.
+//! * [`generate`], [`damage`]: valid basins, and basins that break one rule.
+//! * `ffi` (feature `native`): the static library's C functions.
+
+pub mod damage;
+pub mod engine;
+pub mod examples;
+#[cfg(feature = "native")]
+pub mod ffi;
+pub mod generate;
+pub mod listing;
+pub mod run;

@@ -1,0 +1,98 @@
+//! What the generator makes is valid, and covers what it should.
+
+use river_tests::engine::records::*;
+use river_tests::engine::tally::{path, row_below};
+use river_tests::engine::{board, check, fresh, stock};
+use river_tests::generate::{any_river, largest, river_of, Rng, Size};
+
+#[test]
+fn valid_basins_are_accepted() {
+    for seed in 0..2000 {
+        let river = any_river(&mut Rng::new(seed));
+        assert_eq!(check(&river.file), (0, 0), "seed {seed}");
+    }
+}
+
+#[test]
+fn possible_boards_are_accepted() {
+    for seed in 0..500 {
+        let rng = &mut Rng::new(seed);
+        let river = any_river(rng);
+        let mut board = river.possible_board(rng);
+        assert_eq!(stock(&river.file, &board)[..2], [0, 0], "seed {seed}");
+        assert_eq!(fresh(&river.file, &mut board), (0, 0));
+        let storages: u64 = river.basin.reservoirs.iter().map(|r| r.start as u64).sum();
+        assert_eq!(stock(&river.file, &board), [0, 0, storages, 0], "seed {seed}");
+        assert_eq!(board[board::STORAGES..board::MARKS].iter().sum::<u64>(), storages);
+    }
+}
+
+#[test]
+fn largest_file_is_at_every_limit() {
+    let basin = largest();
+    assert_eq!(basin.encode().len(), 20_736);
+    assert_eq!(check(&basin.encode()), (0, 0));
+    for seed in 0..20 {
+        let river = river_of(&mut Rng::new(seed), Size::Limit);
+        assert_eq!(river.file.len(), 20_736);
+    }
+}
+
+/// Each thing the generator is said to cover does occur.
+#[test]
+fn coverage() {
+    let mut seen = std::collections::BTreeMap::new();
+    for seed in 0..2000 {
+        let basin = any_river(&mut Rng::new(seed)).basin;
+        let mut see = |what: String| *seen.entry(what).or_insert(0) += 1;
+        for (row, station) in basin.stations.iter().enumerate() {
+            see(format!("order {}", station.order));
+            if row_below(&basin.stations, row).is_some_and(|below| below > row + 1) {
+                see("path leaves out a row".into());
+            }
+        }
+        for (place, lake) in basin.reservoirs.iter().enumerate() {
+            if basin.reservoirs[..place].iter().any(|other| other.row == lake.row) {
+                see("two reservoirs on a row".into());
+            }
+            if lake.start == lake.capacity {
+                see("full at the start".into());
+            }
+        }
+        for (place, right) in basin.rights.iter().enumerate() {
+            see(format!("kind {} with {} points", right.kind, right.points));
+            if right.date == UNDATED {
+                see("undated".into());
+            }
+            if place > 0 && basin.rights[place - 1].date == right.date {
+                see("equal dates".into());
+            }
+            let downstream = path(&basin.stations, right.row as usize);
+            for point in &right.returns[..right.points as usize] {
+                if !downstream.contains(&(point.row as usize)) {
+                    see("return on another tributary".into());
+                }
+            }
+        }
+    }
+    let mut wanted: Vec<String> = (1..=8).map(|order| format!("order {order}")).collect();
+    for points in 0..=4 {
+        wanted.push(format!("kind 1 with {points} points"));
+        wanted.push(format!("kind 2 with {points} points"));
+    }
+    for what in [
+        "kind 3 with 0 points",
+        "kind 4 with 0 points",
+        "path leaves out a row",
+        "two reservoirs on a row",
+        "full at the start",
+        "undated",
+        "equal dates",
+        "return on another tributary",
+    ] {
+        wanted.push(what.into());
+    }
+    for what in wanted {
+        assert!(seen.get(&what).is_some_and(|&times| times > 20), "{what}: {:?}", seen.get(&what));
+    }
+}

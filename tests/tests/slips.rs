@@ -1,0 +1,241 @@
+//! Each deliberately wrong engine is told apart from the right one by the
+//! generated inputs. Prints the table that stands in README.md:
+//! `cargo test --release --test slips -- --nocapture`.
+
+use river_tests::damage::*;
+use river_tests::engine::board::{self, BOARD, NEXT_MONTH};
+use river_tests::engine::check::{judge, Network};
+use river_tests::engine::month::{self, NoWitness};
+use river_tests::engine::slip::{Faithful, Slipped, ALL};
+use river_tests::engine::{check, fresh, month_allowed, stock};
+use river_tests::generate::{any_river, largest, River, Rng};
+
+/// A difference between the right engine and a wrong one: where it was seen.
+type Seen = Option<&'static str>;
+
+/// Files for the check: one rule broken, extreme legal values, not packed.
+fn files() -> Vec<Vec<u8>> {
+    let rng = &mut Rng::new(77);
+    let mut files = vec![largest().encode()];
+    let random = (100..140).map(|seed| any_river(&mut Rng::new(seed)).basin);
+    for base in std::iter::once(rich_base()).chain(random) {
+        files.push(base.encode());
+        for &(_, _, edit) in BROKEN {
+            let mut basin = base.clone();
+            files.extend(edit(&mut basin, rng).map(|_| basin.encode()));
+        }
+        for &(_, edit) in LEGAL {
+            let mut basin = base.clone();
+            files.extend(edit(&mut basin, rng).map(|_| basin.encode()));
+        }
+        files.extend(not_packed(&base).into_iter().map(|(_, file)| file));
+    }
+    files
+}
+
+fn compare_check(wrong: &Slipped, file: &[u8]) -> Seen {
+    let told = match judge(wrong, file, &mut Network::room()) {
+        Ok(_) => (0, 0),
+        Err(refusal) => refusal.answer(),
+    };
+    (told != check(file)).then_some("check")
+}
+
+fn compare_fresh(wrong: &Slipped, file: &[u8], before: &[u64]) -> Seen {
+    let (mut right_board, mut wrong_board) = (before.to_vec(), before.to_vec());
+    let told = fresh(file, &mut right_board) == board::fresh(wrong, file, &mut wrong_board);
+    (!told || right_board != wrong_board).then_some("fresh")
+}
+
+fn compare_stock(wrong: &Slipped, file: &[u8], board: &[u64]) -> Seen {
+    (stock(file, board) != board::stock(wrong, file, board)).then_some("stock")
+}
+
+/// Compares one month call; the board goes on as the right engine leaves it.
+fn compare_month(
+    wrong: &Slipped,
+    file: &[u8],
+    runoff: &[u32],
+    board: &mut Vec<u64>,
+    report_length: usize,
+) -> Seen {
+    let mut report = vec![55; report_length];
+    let mut wrong_report = report.clone();
+    let mut wrong_board = board.clone();
+    let told =
+        month::month(wrong, &mut NoWitness, file, runoff, &mut wrong_board, &mut wrong_report);
+    let (answer, allowed) = month_allowed(file, runoff, board, &mut report);
+    if told != answer {
+        return Some("month: answer");
+    }
+    // Any allowed station may be named: put the right engine's name there.
+    for (right, stations) in allowed.iter().enumerate() {
+        let named = 4 * right + 3;
+        if stations.contains(&(wrong_report[named] as u32)) {
+            wrong_report[named] = report[named];
+        }
+    }
+    if wrong_report != report {
+        let only_named = (0..report_length)
+            .all(|at| wrong_report[at] == report[at] || (at < 4 * allowed.len() && at % 4 == 3));
+        return Some(if only_named { "month: station named" } else { "month: report" });
+    }
+    (wrong_board != *board).then_some("month: board")
+}
+
+/// All calls on one river; `calls` counts them.
+fn compare_river(wrong: &Slipped, river: &River, rng: &mut Rng, calls: &mut usize) -> Seen {
+    let file = &river.file;
+    let length = river.basin.report_length();
+    let mut board = river.possible_board(rng);
+    *calls += 3;
+    compare_check(wrong, file)
+        .or_else(|| compare_fresh(wrong, file, &board))
+        .or_else(|| compare_stock(wrong, file, &board))
+        .or_else(|| {
+            fresh(file, &mut board);
+            (0..30).find_map(|_| {
+                *calls += 1;
+                compare_month(wrong, file, &river.runoff(rng), &mut board, length + 2)
+            })
+        })
+        .or_else(|| compare_possible_boards(wrong, river, rng, calls))
+        .or_else(|| compare_refused_calls(wrong, river, rng, calls))
+}
+
+fn compare_possible_boards(
+    wrong: &Slipped,
+    river: &River,
+    rng: &mut Rng,
+    calls: &mut usize,
+) -> Seen {
+    let length = river.basin.report_length();
+    let extreme = |edit: Option<Extreme>, rng: &mut Rng| {
+        let mut board = river.possible_board(rng);
+        if let Some(edit) = edit {
+            edit(&river.basin, &mut board);
+        }
+        board
+    };
+    let edits = POSSIBLE.iter().map(|possible| Some(possible.1));
+    edits.chain([None; 6]).find_map(|edit| {
+        *calls += 2;
+        let mut board = extreme(edit, rng);
+        let runoff = river.runoff(rng);
+        compare_stock(wrong, &river.file, &board)
+            .or_else(|| compare_month(wrong, &river.file, &runoff, &mut board, length))
+    })
+}
+
+fn compare_refused_calls(wrong: &Slipped, river: &River, rng: &mut Rng, calls: &mut usize) -> Seen {
+    let file = &river.file;
+    let length = river.basin.report_length();
+    for &(_, edit) in IMPOSSIBLE {
+        let mut board = river.possible_board(rng);
+        if impossible_board(edit, &river.basin, &mut board, rng).is_none() {
+            continue;
+        }
+        *calls += 2;
+        let runoff = vec![u32::MAX; river.basin.stations.len()];
+        let seen = compare_stock(wrong, file, &board)
+            .or_else(|| compare_month(wrong, file, &runoff, &mut board, length));
+        if seen.is_some() {
+            return seen;
+        }
+    }
+    let rows = river.basin.stations.len();
+    let lengths = [
+        (rows + 1, BOARD, length),
+        (rows - 1, BOARD, length),
+        (rows, BOARD + 1, length),
+        (rows, BOARD - 1, length),
+        (rows, BOARD, length - 1),
+        (rows, BOARD, length),
+    ];
+    lengths.into_iter().find_map(|(runoffs, boards, reports)| {
+        *calls += 1;
+        let mut board: Vec<u64> = river.possible_board(rng);
+        board.resize(boards, 0);
+        // With the right lengths: several rows over the limit, but not the first.
+        let over =
+            if (runoffs, boards, reports) == (rows, BOARD, length) { 1_000_000_001 } else { 0 };
+        let mut runoff = vec![over; runoffs];
+        if rows > 1 && !runoff.is_empty() {
+            runoff[0] = 0;
+        }
+        compare_month(wrong, file, &runoff, &mut board, reports)
+    })
+}
+
+/// Place in the files' list of the first that tells the two apart.
+fn find_in_files(wrong: &Slipped, files: &[Vec<u8>]) -> Option<usize> {
+    let differs = |file: &Vec<u8>| compare_check(wrong, file).is_some();
+    files.iter().position(differs).map(|place| place + 1)
+}
+
+/// Where a call on a valid basin tells them apart, and after how many calls.
+fn find_in_calls(wrong: &Slipped) -> (Seen, usize) {
+    let mut calls = 0;
+    for seed in 0..200 {
+        let rng = &mut Rng::new(seed);
+        let river = any_river(rng);
+        if let Some(seen) = compare_river(wrong, &river, rng, &mut calls) {
+            return (Some(seen), calls);
+        }
+    }
+    (None, calls)
+}
+
+#[test]
+fn every_slip_is_seen() {
+    let files = files();
+    let mut unseen = Vec::new();
+    println!("| slip | what is wrong | files until seen | calls until seen |");
+    println!("|---|---|---|---|");
+    for &(slip, name, wrong) in ALL {
+        let wrong_engine = Slipped(slip);
+        let in_files = find_in_files(&wrong_engine, &files);
+        // A slip of the file's check alone shows in no call on a valid basin.
+        let (seen, calls) = find_in_calls(&wrong_engine);
+        let files_told = in_files.map_or("-".into(), |place| place.to_string());
+        let calls_told = seen.map_or("-".into(), |seen| format!("{calls}, {seen}"));
+        println!("| {name} | {wrong} | {files_told} | {calls_told} |");
+        if in_files.is_none() && seen.is_none() {
+            unseen.push(name);
+        }
+    }
+    println!("{} slips, {} files for the check", ALL.len(), files.len());
+    assert!(unseen.is_empty(), "not seen: {unseen:?}");
+}
+
+/// The comparison itself finds nothing where there is nothing to find: the right
+/// engine, run in the wrong one's place, with the same inputs.
+#[test]
+fn the_right_engine_differs_nowhere() {
+    for seed in 0..40 {
+        let rng = &mut Rng::new(seed);
+        let river = any_river(rng);
+        let length = river.basin.report_length();
+        let mut one = river.possible_board(rng);
+        let mut other = one.clone();
+        for _ in 0..20 {
+            let runoff = river.runoff(rng);
+            let (mut report, mut again) = (vec![1; length], vec![1; length]);
+            let told = month::month(
+                &Faithful,
+                &mut NoWitness,
+                &river.file,
+                &runoff,
+                &mut one,
+                &mut report,
+            );
+            let (answer, allowed) = month_allowed(&river.file, &runoff, &mut other, &mut again);
+            assert_eq!((told, &one, &report), (answer, &other, &again));
+            assert!(one[NEXT_MONTH] < 12);
+            for (right, stations) in allowed.iter().enumerate() {
+                let named = report[4 * right + 3] as u32;
+                assert!(stations.is_empty() || stations[0] == named, "the first on the path");
+            }
+        }
+    }
+}
