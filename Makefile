@@ -1,11 +1,11 @@
 # Two commands do all the set-up from a fresh checkout: `make run` and `make test`.
 .PHONY: run test
 
-# The main job on a sample. The program `riverrun` is not part of this delivery yet.
+# The main job that is here: the check of the sample rivers' basin files. The program `riverrun`, which lists their months, is not part of this delivery yet.
 run:
-	@echo "riverrun, the program that lists the months of a basin, is not here yet."
-	@echo "What is here is proved by: make test"
+	rt check rivercheck
+	cd samples && ../target/bin/rivercheck october.basin.bin provo.basin.bin
 
-# Everything: proofs, must-fail edits, programs.
+# Everything: tests in Rust and C, proofs, must-fail edits, programs.
 test:
 	bash .ci/run

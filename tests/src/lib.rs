@@ -4,8 +4,10 @@
 //! * [`engine`]: check, fresh, month, stock; the tally of a list of months.
 //! * [`listing`]: what program `riverrun` prints.
 //! * [`generate`], [`damage`]: valid basins, and basins that break one rule.
+//! * [`cases`]: the files that program `rivercheck` is run on, with what it prints.
 //! * `ffi` (feature `native`): the static library's C functions.
 
+pub mod cases;
 pub mod damage;
 pub mod engine;
 pub mod examples;

@@ -5,3 +5,7 @@ pub mod Sums
 pub mod Lists
 pub mod Tables
 pub mod Iterate
+pub mod Loops
+pub mod Routes
+pub mod Fill
+pub mod Entries

@@ -1,12 +1,12 @@
 -- Facts of getD and set that the library lacks. Assumes nothing.
-use mathlib.Core.Path.{_≡_, refl, sym, subst}
+use mathlib.Core.Path.{_≡_, refl, sym, _∙_, subst}
 use mathlib.Core.Bool.{Bool, true, false, cond}
-use mathlib.Core.List.{List, [], _∷_, _++_}
+use mathlib.Core.List.{List, [], _∷_, _++_, map}
 use Prim.Native.Nat.{ℕ, zero, suc, _+_, _-_, _≤_, _<_}
 use native.Mathlib.Omega.{arith}
 use lib.Dec.{eqb}
 use lib.ListN.{length, getD, set, replicate}
-use lib.Seq.{getD-set-same, getD-set-other}
+use lib.Seq.{getD-set-same, getD-set-other, ext-getD}
 use Rattle.general.specs.Sums.{only}
 use Rattle.general.specs.Tables.{All}
 use Rattle.general.proofs.Tests.{by-eqb}
@@ -57,3 +57,28 @@ pub all-at-place : {A : Type 0} (P : A → Type 0) (l : List A) (d : A) → All 
 all-at-place P [] d h i k = absurd (omega arith)
 all-at-place P (x ∷ l) d h zero k = h .0
 all-at-place P (x ∷ l) d h (suc i) k = all-at-place P l d (h .1) i (omega arith)
+
+-- ---- a list that a loop writes over from the front: its first k places are those of l
+
+pub record Written {A : Type 0} (d : A) (l x : List A) (k : ℕ) : Type 0 where
+  pub same : (j : ℕ) → j < k → getD x j d ≡ getD l j d
+
+module _ {A : Type 0} (d : A) (l x : List A) where
+  pub written-none : Written d l x 0
+  written-none = record { same = λ j h. absurd (omega arith) }
+
+  pub written-more : (k : ℕ) (v : A) → k < length x → v ≡ getD l k d → Written d l x k → Written d l (set x k v) (k + 1)
+  written-more k v h e w = record {
+    same = λ j m. by-eqb j k (λ _. getD (set x k v) j d ≡ getD l j d)
+        (λ z. rw z (getD-set-same x k v d h ∙ e))
+        (λ z. getD-set-other x k j v d z ∙ w .same j (omega arith));
+  }
+
+  pub written-all : (k : ℕ) → length x ≡ length l → length x ≤ k → Written d l x k → x ≡ l
+  written-all k e h w = ext-getD d x l e (λ j m. w .same j (omega arith))
+
+-- a place of a list that a function maps, whatever the defaults
+pub getD-map-in : {A B : Type 0} (f : A → B) (l : List A) (i : ℕ) (d : B) (e : A) → i < length l → getD (map f l) i d ≡ f (getD l i e)
+getD-map-in f [] i d e h = absurd (omega arith)
+getD-map-in f (x ∷ l) zero d e h = refl
+getD-map-in f (x ∷ l) (suc i) d e h = getD-map-in f l i d e (omega arith)

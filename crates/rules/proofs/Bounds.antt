@@ -23,7 +23,7 @@ use Rattle.rules.specs.Accepted.{Connected, GoodReservoir, GoodRight, Ac
 use Rattle.rules.specs.Theorems.{mostDue, Possible}
 use Rattle.rules.proofs.River.{lesser-le}
 use Rattle.rules.proofs.Splits.{returned-le}
-use Rattle.rules.proofs.Months.{evaporated-length}
+use Rattle.rules.proofs.Months.{turns-length, evaporated-length}
 use Rattle.rules.proofs.Pending.{pending-on, pending-ends, none-pending}
 
 -- the largest amount of a right in a month
@@ -98,11 +98,6 @@ turns-small : (b : Basin) (m i : ℕ) (rs : List Right) (s : State) → All (Goo
 unfolding turns
 turns-small b m i [] s h = tt
 turns-small b m i (r ∷ rs) s h = (turn-small b m i r s (h .0), turns-small b m (suc i) rs ((turn b m i r s) .after-returns) (h .1))
-
-turns-length : (b : Basin) (m i : ℕ) (rs : List Right) (s : State) → length (turns b m i rs s) ≡ length rs
-unfolding turns
-turns-length b m i [] s = refl
-turns-length b m i (r ∷ rs) s = ap suc (turns-length b m (suc i) rs ((turn b m i r s) .after-returns))
 
 month-returns-le : (b : Basin) → Accepted b → (c : Carried) (runoff arrived : List ℕ) (w s : ℕ) → returnsAt b ((month b c runoff arrived) .turns) w s ≤ 256 * mostAmount
 unfolding month

@@ -7,6 +7,7 @@ pub mod Reservoirs
 pub mod Pending
 pub mod Sums
 pub mod Bounds
+pub mod Names
 pub mod October
 pub mod Theorems
 pub mod Marked

@@ -5,8 +5,9 @@ use Prim.Native.Nat.{ℕ, _/_, _%_, _^_}
 use native.Mathlib.Nat.{zero-div}
 use Rattle.general.specs.Sums.{sumOver, sumOverℤ, sumTo, sumToℤ}
 use Rattle.general.specs.Tables.{tab}
+use Rattle.general.specs.Routes.{follow}
 use Rattle.general.specs.Tests.{_and_, has, firstAt}
-use Rattle.rules.specs.Path.{carriesOn, rowBelow, walk, path, untilRow}
+use Rattle.rules.specs.Path.{carriesOn, rowBelow, path, untilRow}
 use Rattle.rules.specs.River.{diverted, reserved, released, returned, along, lowest, lesser}
 use Rattle.rules.specs.Returns.{consumption, returning, sharesFrom, shares, partsAt, partsOf, lagged, returnNow, returnedAt}
 use Rattle.rules.specs.Turn.{bit, scheduled, demand, anyOn, called, divertible, riverPart, withLevels, afterDiversion, riverStage, storagePart, storageStage, returnStage, shortage, reasonOf, keepIf, lowestOn, lowRows, numberAt, controlling, turn}
@@ -16,7 +17,7 @@ use Rattle.rules.specs.Water.{totalOutflow, totalConsumption, inTransit}
 use Rattle.rules.specs.Marked.{Marked, Told, Computed}
 
 pub computed : Computed
-unfolding sumOver sumOverℤ sumTo tab _and_ has firstAt carriesOn rowBelow walk path untilRow diverted reserved released returned along lowest lesser consumption returning sharesFrom shares partsAt partsOf lagged returnNow returnedAt bit scheduled demand anyOn called divertible riverPart withLevels afterDiversion riverStage storagePart storageStage returnStage shortage reasonOf keepIf lowestOn lowRows numberAt controlling turn gathered openingLevels opening turns afterTurns consumedBy returnedBy returnsAt areaFrom areaAt evaporation evaporations evaporated nextMonth month reasonNumber isShort shortCount listsFit overLimit overAnswer judged refusal freshCarried fresh pendingFrom pending arriving nextRun accept afterJudged afterCall afterCalls answerJudged answerOf answers totalOutflow totalConsumption inTransit
+unfolding sumOver sumOverℤ sumTo tab _and_ has firstAt follow carriesOn rowBelow path untilRow diverted reserved released returned along lowest lesser consumption returning sharesFrom shares partsAt partsOf lagged returnNow returnedAt bit scheduled demand anyOn called divertible riverPart withLevels afterDiversion riverStage storagePart storageStage returnStage shortage reasonOf keepIf lowestOn lowRows numberAt controlling turn gathered openingLevels opening turns afterTurns consumedBy returnedBy returnsAt areaFrom areaAt evaporation evaporations evaporated nextMonth month reasonNumber isShort shortCount listsFit overLimit overAnswer judged refusal freshCarried fresh pendingFrom pending arriving nextRun accept afterJudged afterCall afterCalls answerJudged answerOf answers totalOutflow totalConsumption inTransit
 computed = record {
   marked = record {
     october-answer = refl;

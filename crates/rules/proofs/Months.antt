@@ -107,6 +107,12 @@ turns-ok b c n m i (r ∷ rs) s h g =
       balance = omega (arith, o .balance, os .balance, later-all-cons b t ts);
     }
 
+-- a turn for each right
+pub turns-length : (b : Basin) (m i : ℕ) (rs : List Right) (s : State) → length (turns b m i rs s) ≡ length rs
+unfolding turns
+turns-length b m i [] s = refl
+turns-length b m i (r ∷ rs) s = ap suc (turns-length b m (suc i) rs ((turn b m i r s) .after-returns))
+
 -- ---- before the first right
 
 module _ (b : Basin) (c : Connected b) (runoff arriving : List ℕ) where
@@ -198,3 +204,7 @@ month-ok b acc c n runoff arriving =
       storages = evaporated-length b (c .m) (e .storages);
       water = omega (arith, rw (opening-last b con runoff arriving) at (o .balance), evaporated-sum b (c .m) (e .storages) (o .good .storages));
     }
+
+pub month-length : (b : Basin) (c : Carried) (runoff arriving : List ℕ) → length ((month b c runoff arriving) .turns) ≡ length (b .rights)
+unfolding month
+month-length b c runoff arriving = turns-length b (c .m) 0 (b .rights) (opening b c runoff arriving)

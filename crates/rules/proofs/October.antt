@@ -8,9 +8,10 @@ use native.Mathlib.Omega.{arith}
 use native.Mathlib.Decide.{decLt}
 use lib.ListN.{length, getD, replicate, getD-replicate, length-replicate, List·getD-eq-default}
 use Rattle.general.specs.Sums.{sumOver}
+use Rattle.general.specs.Routes.{follow}
 use Rattle.general.specs.Tests.{has, firstAt}
 use Rattle.rules.specs.Basin.{Reservoir, Right, direct, project}
-use Rattle.rules.specs.Path.{carriesOn, rowBelow, walk, path}
+use Rattle.rules.specs.Path.{carriesOn, rowBelow, path}
 use Rattle.rules.specs.Accepted.{Connected, GoodReservoir, GoodRight, Accepted, Unreturned, Returned}
 use Rattle.rules.specs.October.{plainRight, storageRight, returningRight, octoberStations, octoberReservoir, october}
 
@@ -42,7 +43,7 @@ reservoir-good = record {
 }
 
 pub october-facts : Accepted october
-unfolding has path walk rowBelow firstAt carriesOn sumOver
+unfolding has follow path rowBelow firstAt carriesOn sumOver
 october-facts = record {
   few-rows = omega arith;
   few-reservoirs = omega arith;
@@ -60,6 +61,7 @@ october-facts = record {
       returns-ok = inl (record { no-points = refl; all-used = refl });
       amounts-most = λ m. same-amounts 12 1500 m _ (omega arith);
       limit-most = omega arith;
+      efficiency-most = omega arith;
     }
 
     right-12 : GoodRight october (returningRight 12 19000401 direct 1 255 1201 33 2)
@@ -77,6 +79,7 @@ october-facts = record {
       });
       amounts-most = λ m. same-amounts 12 1201 m _ (omega arith);
       limit-most = omega arith;
+      efficiency-most = omega arith;
     }
 
     right-13 : GoodRight october (storageRight 13 19100101 0 0 900 3000)
@@ -86,6 +89,7 @@ october-facts = record {
       returns-ok = refl;
       amounts-most = λ m. same-amounts 12 900 m _ (omega arith);
       limit-most = omega arith;
+      efficiency-most = omega arith;
     }
 
     right-14 : GoodRight october (plainRight 14 19500101 project 1 0 600)
@@ -95,6 +99,7 @@ october-facts = record {
       returns-ok = inl (record { no-points = refl; all-used = refl });
       amounts-most = λ m. same-amounts 12 600 m _ (omega arith);
       limit-most = omega arith;
+      efficiency-most = omega arith;
     }
 
     right-15 : GoodRight october (plainRight 15 99999999 direct 0 255 50)
@@ -104,4 +109,5 @@ october-facts = record {
       returns-ok = inl (record { no-points = refl; all-used = refl });
       amounts-most = λ m. same-amounts 12 50 m _ (omega arith);
       limit-most = omega arith;
+      efficiency-most = omega arith;
     }

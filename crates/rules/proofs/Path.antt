@@ -10,14 +10,15 @@ use lib.ListN.{length}
 use Rattle.general.specs.Tables.{Rising}
 use Rattle.general.specs.Tests.{has}
 use Rattle.general.proofs.Tests.{absurd-bool, eqb-same, eqb-other, by-eqb}
+use Rattle.general.proofs.Routes.{route-row, route-end, by-route, route-from, route-in, route-self, route-head, route-rising}
 use Rattle.general.proofs.Search.{has-none, has-head, has-tail, has-other, has-single, first-within}
 use Rattle.rules.specs.Basin.{Station, Basin, rows}
-use Rattle.rules.specs.Path.{rowBelow, walk, path, untilRow, lastRow}
+use Rattle.rules.specs.Path.{rowBelow, path, untilRow, lastRow}
 use Rattle.rules.specs.Accepted.{Connected}
 
 -- ---- the part of a path above a row
 
-until-none : (w : ℕ) → untilRow w [] ≡ []
+pub until-none : (w : ℕ) → untilRow w [] ≡ []
 unfolding untilRow
 until-none w = refl
 
@@ -37,94 +38,50 @@ module _ (st : List Station) where
   unfolding rowBelow
   below-later r q e = omega (arith, first-within _ (length st - suc r) (suc r) q e)
 
-  walk-zero : (r : ℕ) → walk st zero r ≡ []
-  unfolding walk
-  walk-zero r = refl
-
-  walk-step : (n r q : ℕ) → rowBelow st r ≡ some q → walk st (suc n) r ≡ r ∷ walk st n q
-  unfolding walk
-  walk-step n r q e = rw (e, walk)
-
-  walk-end : (n r : ℕ) → rowBelow st r ≡ none → walk st (suc n) r ≡ r ∷ []
-  unfolding walk
-  walk-end n r e = rw (e, walk)
-
-  -- the bound on the rows left does not matter once it is large enough
-  walk-more : (k m i : ℕ) → i < length st → length st ≤ k + i → length st ≤ m + i → walk st k i ≡ walk st m i
-  walk-more zero m i o h h′ = absurd (omega arith)
-  walk-more (suc k) zero i o h h′ = absurd (omega arith)
-  walk-more (suc k) (suc m) i o h h′ = go (rowBelow st i) refl (walk-more k m)
-    where
-      go : (b : Option ℕ) → rowBelow st i ≡ b → ((j : ℕ) → j < length st → length st ≤ k + j → length st ≤ m + j → walk st k j ≡ walk st m j) → walk st (suc k) i ≡ walk st (suc m) i
-      go none e ih = walk-end k i e ∙ sym (walk-end m i e)
-      go (some q) e ih =
-          let w = below-later i q e in
-          walk-step k i q e ∙ ap (λ (p : List ℕ). i ∷ p) (ih q (w .1) (omega arith) (omega arith)) ∙ sym (walk-step m i q e)
+  later : (r q : ℕ) → r < length st → rowBelow st r ≡ some q → (r < q) × (q < length st)
+  later r q h e = below-later r q e
 
   -- a path is its row, followed by the path of the row below
   pub path-row : (i q : ℕ) → i < length st → rowBelow st i ≡ some q → path st i ≡ i ∷ path st q
   unfolding path
-  path-row i q h e = go (length st) refl
-    where
-      go : (n : ℕ) → length st ≡ n → walk st n i ≡ i ∷ walk st n q
-      go zero z = absurd (omega arith)
-      go (suc n) z =
-          let w = below-later i q e in
-          walk-step n i q e ∙ ap (λ (p : List ℕ). i ∷ p) (walk-more n (suc n) q (w .1) (omega arith) (omega arith))
+  path-row i q h e = route-row (rowBelow st) (length st) later i q h e
 
   -- and its row alone where there is none below
   pub path-end : (i : ℕ) → i < length st → rowBelow st i ≡ none → path st i ≡ i ∷ []
   unfolding path
-  path-end i h e = go (length st) refl
-    where
-      go : (n : ℕ) → length st ≡ n → walk st n i ≡ i ∷ []
-      go zero z = absurd (omega arith)
-      go (suc n) z = walk-end n i e
+  path-end i h e = route-end (rowBelow st) (length st) later i h e
 
-  -- ---- by steps down the river: a property of a row and its path holds if it holds at the end of a path and passes from the row below
-
+  -- by steps down the river: a property of a row and its path holds if it holds at the end of a path and passes from the row below
   module _ (P : ℕ → List ℕ → Type 0)
       (at-end : (r : ℕ) → r < length st → rowBelow st r ≡ none → P r (r ∷ []))
       (at-row : (r q : ℕ) → r < length st → rowBelow st r ≡ some q → r < q → q < length st → P q (path st q) → P r (r ∷ path st q)) where
-    down : (n r : ℕ) → r < length st → length st ≤ n + r → P r (path st r)
-    down zero r h k = absurd (omega arith)
-    down (suc n) r h k = go (rowBelow st r) refl (down n)
-      where
-        go : (o : Option ℕ) → rowBelow st r ≡ o → ((q : ℕ) → q < length st → length st ≤ n + q → P q (path st q)) → P r (path st r)
-        go none e ih = rw (path-end r h e) (at-end r h e)
-        go (some q) e ih = let w = below-later r q e in rw (path-row r q h e) (at-row r q h e (w .0) (w .1) (ih q (w .1) (omega arith)))
-
     pub by-path : (r : ℕ) → r < length st → P r (path st r)
-    by-path r h = down (length st) r h (omega arith)
+    unfolding path
+    by-path r h = by-route (rowBelow st) (length st) later P at-end at-row r h
 
   -- rows on a path are the row itself or later ones
   pub path-from : (r : ℕ) → r < length st → (i : ℕ) → i < r → has i (path st r) ≡ false
-  path-from r h = by-path (λ x p. (i : ℕ) → i < x → has i p ≡ false)
-      (λ x l e i k. has-single i x (omega arith))
-      (λ x q l e a b ih i k. has-other i x (path st q) (omega arith) ∙ ih i (omega arith))
-      r h
+  unfolding path
+  path-from r h = route-from (rowBelow st) (length st) later r h
 
   -- and rows of the list
   pub path-in : (r : ℕ) → r < length st → (i : ℕ) → has i (path st r) ≡ true → i < length st
-  path-in r h = by-path (λ x p. (i : ℕ) → has i p ≡ true → i < length st)
-      (λ x l e i k. by-eqb i x (λ _. i < length st) (λ f. omega arith) (λ f. absurd-bool k (has-single i x f)))
-      (λ x q l e a b ih i k. by-eqb i x (λ _. i < length st) (λ f. omega arith) (λ f. ih i (sym (has-other i x (path st q) f) ∙ k)))
-      r h
+  unfolding path
+  path-in r h = route-in (rowBelow st) (length st) later r h
 
   pub path-self : (r : ℕ) → r < length st → has r (path st r) ≡ true
-  path-self r h = by-path (λ x p. has x p ≡ true) (λ x l e. has-head x x [] refl) (λ x q l e a b ih. has-head x x (path st q) refl) r h
+  unfolding path
+  path-self r h = route-self (rowBelow st) (length st) later r h
 
   -- it begins with its row
   pub path-head : (r : ℕ) → r < length st → (p : List ℕ) × (path st r ≡ r ∷ p)
-  path-head r h = by-path (λ x p. (t : List ℕ) × (p ≡ x ∷ t)) (λ x l e. ([], refl)) (λ x q l e a b ih. (path st q, refl)) r h
+  unfolding path
+  path-head r h = route-head (rowBelow st) (length st) later r h
 
   -- its rows rise
-  rising-cons : (x q : ℕ) (p : List ℕ) → x < q → (t : List ℕ) × (p ≡ q ∷ t) → Rising p → Rising (x ∷ p)
-  rising-cons x q [] l (t, e) h = tt
-  rising-cons x q (y ∷ p) l (t, e) h = let f : y ≡ q = cc in (omega arith, h)
-
   pub path-rising : (r : ℕ) → r < length st → Rising (path st r)
-  path-rising r h = by-path (λ x p. Rising p) (λ x l e. tt) (λ x q l e a b ih. rising-cons x q (path st q) a (path-head q b) ih) r h
+  unfolding path
+  path-rising r h = route-rising (rowBelow st) (length st) later r h
 
 -- ---- an accepted network
 

@@ -59,6 +59,7 @@ pub record GoodRight (b : Basin) (r : Right) : Type 0 where
   pub returns-ok : ReturnsOk (r .kind) b r
   pub amounts-most : (m : ℕ) → getD (r .amounts) m 0 ≤ 1_000_000_000
   pub limit-most : r .limit ≤ 2_000_000_000
+  pub efficiency-most : r .efficiency ≤ 100
 
 pub record Accepted (b : Basin) : Type 0 where
   pub few-rows : rows b ≤ 64

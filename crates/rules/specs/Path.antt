@@ -1,10 +1,11 @@
 -- The river's network (01, "The path of a row"). It is read off the stations alone.
 use mathlib.Core.Bool.{Bool, true, false, _||_}
 use mathlib.Core.List.{List, [], _∷_}
-use mathlib.Core.Option.{Option, none, some}
-use Prim.Native.Nat.{ℕ, zero, suc, _-_}
+use mathlib.Core.Option.{Option}
+use Prim.Native.Nat.{ℕ, suc, _-_}
 use lib.Dec.{eqb}
 use lib.ListN.{length}
+use Rattle.general.specs.Routes.{follow}
 use Rattle.general.specs.Tests.{firstAt}
 use Rattle.rules.specs.Basin.{Station, Basin, rows, stationAt}
 
@@ -16,14 +17,9 @@ carriesOn st o j = let x : ℕ = (stationAt st j) .order in eqb x o || eqb (suc 
 unfoldable pub rowBelow : List Station → ℕ → Option ℕ
 rowBelow st r = firstAt (length st - suc r) (suc r) (carriesOn st ((stationAt st r) .order))
 
--- A path is its row, followed by the path of the row below; n is the number of rows that it may still take.
-unfoldable pub walk : List Station → ℕ → ℕ → List ℕ
-walk st zero r = []
-walk st (suc n) r = r ∷ elim (rowBelow st r) [ none ↦ [] | some q ↦ walk st n q ]
-
--- The path of a row: its station and all those downstream of it.
+-- The path of a row is that row, followed by the path of the row below: its station and all those downstream of it.
 unfoldable pub path : List Station → ℕ → List ℕ
-path st r = walk st (length st) r
+path st r = follow (rowBelow st) (length st) r
 
 -- a path as far as just above row w
 unfoldable pub untilRow : ℕ → List ℕ → List ℕ

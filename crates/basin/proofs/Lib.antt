@@ -1,0 +1,7 @@
+pub mod Parts
+pub mod Decoded
+pub mod Rows
+pub mod Faults
+pub mod Cases
+pub mod Accepted
+pub mod October

@@ -1,0 +1,83 @@
+-- `basin::bytes::le32` meets its contract. Assumes nothing.
+use borrow.Author.Needs.{needs}
+use Rattle.basin.specs.Bytes.{le32At}
+use Rattle.basin.proofs.bytes.le32.Statement.{statement}
+use Rattle.basin.proofs.bytes.le32.Tie as tie
+
+shared-slice-read-wide32 : tie.Need-shared-slice-read-wide32
+shared-slice-read-wide32 c = search needs
+
+wide32-requires : tie.Need-wide32-requires
+wide32-requires c κs = search needs
+
+add-wide32 : tie.Need-add-wide32
+add-wide32 c = search needs
+
+shared-slice-read-wide32-2 : tie.Need-shared-slice-read-wide32-2
+shared-slice-read-wide32-2 c = search needs
+
+wide32-requires-2 : tie.Need-wide32-requires-2
+wide32-requires-2 c κs = search needs
+
+mul-result : tie.Need-mul-result
+mul-result c = search needs
+
+add-result : tie.Need-add-result
+add-result c = search needs
+
+add-wide32-2 : tie.Need-add-wide32-2
+add-wide32-2 c = search needs
+
+shared-slice-read-wide32-3 : tie.Need-shared-slice-read-wide32-3
+shared-slice-read-wide32-3 c = search needs
+
+wide32-requires-3 : tie.Need-wide32-requires-3
+wide32-requires-3 c κs = search needs
+
+mul-result-2 : tie.Need-mul-result-2
+mul-result-2 c = search needs
+
+add-result-2 : tie.Need-add-result-2
+add-result-2 c = search needs
+
+add-wide32-3 : tie.Need-add-wide32-3
+add-wide32-3 c = search needs
+
+shared-slice-read-wide32-4 : tie.Need-shared-slice-read-wide32-4
+shared-slice-read-wide32-4 c = search needs
+
+wide32-requires-4 : tie.Need-wide32-requires-4
+wide32-requires-4 c κs = search needs
+
+mul-result-3 : tie.Need-mul-result-3
+mul-result-3 c = search needs
+
+add-result-3 : tie.Need-add-result-3
+add-result-3 c = search needs
+
+returns : tie.Need-returns
+unfolding le32At
+returns c = cc
+
+pub le32-spec : {M : Type 1} → statement M
+le32-spec =
+    tie.close
+    (tie.spec
+    shared-slice-read-wide32
+    wide32-requires
+    add-wide32
+    shared-slice-read-wide32-2
+    wide32-requires-2
+    mul-result
+    add-result
+    add-wide32-2
+    shared-slice-read-wide32-3
+    wide32-requires-3
+    mul-result-2
+    add-result-2
+    add-wide32-3
+    shared-slice-read-wide32-4
+    wide32-requires-4
+    mul-result-3
+    add-result-3
+    returns)

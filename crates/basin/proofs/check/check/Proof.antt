@@ -1,0 +1,57 @@
+-- `basin::check::check` meets its contract. An accepted layout has a station. Assumes nothing.
+use mathlib.Core.Path.{_≡_, sym, _∙_}
+use mathlib.Core.Bool.{true}
+use Prim.Native.Nat.{_<_}
+use native.Mathlib.Omega.{arith}
+use borrow.Author.Tests.{not-true, not-false}
+use borrow.Author.Needs.{needs}
+use denote.Ref.{now}
+use Rattle.basin.specs.File.{layoutOk, sectionOf}
+use Rattle.basin.specs.Records.{rowsOf}
+use Rattle.basin.proofs.Parts.{laid, rows-counted}
+use Rattle.basin.proofs.Faults.{check-refuses, check-goes-on}
+use Rattle.basin.proofs.check.check.Statement.{statement}
+use Rattle.basin.proofs.check.check.Tie as tie
+
+layout-ok-requires : tie.Need-layout-ok-requires
+layout-ok-requires c κs = search needs
+
+returns : tie.Need-returns
+returns c = check-refuses _ (sym (c .before .layout-ok .ensures) ∙ not-true _ (c .if1 .taken))
+
+section-requires : tie.Need-section-requires
+section-requires c κs = search needs
+
+section-requires-2 : tie.Need-section-requires-2
+section-requires-2 c κs = search needs
+
+section-requires-3 : tie.Need-section-requires-3
+section-requires-3 c κs = search needs
+
+section-requires-4 : tie.Need-section-requires-4
+section-requires-4 c κs = search needs
+
+check-bodies-requires : tie.Need-check-bodies-requires
+check-bodies-requires c κs =
+    let f = now (c .before .before .before .before .before .before .before .args .file) in
+    let e : layoutOk f ≡ true = sym (c .before .before .before .before .before .layout-ok .ensures) ∙ not-false _ (c .before .before .before .before .if1 .left) in
+    let n : 0 < rowsOf (sectionOf f 0) = omega (arith, laid f e .stations, rows-counted f e) in
+    rw (c .before .before .before .section .ensures) n
+
+returns-2 : tie.Need-returns-2
+returns-2 c =
+    let f = now (c .before .before .before .before .before .before .before .before .args .file) in
+    cc (check-goes-on f (sym (c .before .before .before .before .before .before .layout-ok .ensures) ∙ not-false _ (c .before .before .before .before .before .if1 .left)))
+
+pub check-spec : {M : Type 1} → statement M
+check-spec =
+    tie.close
+    (tie.spec
+    layout-ok-requires
+    returns
+    section-requires
+    section-requires-2
+    section-requires-3
+    section-requires-4
+    check-bodies-requires
+    returns-2)

@@ -1,0 +1,25 @@
+-- `basin::contents::layout_ok` meets its contract. Assumes nothing.
+use mathlib.Core.Path.{sym}
+use borrow.Author.Needs.{needs}
+use Rattle.basin.proofs.Parts.{layout-short, layout-long}
+use Rattle.basin.proofs.contents.layout_ok.Statement.{statement}
+use Rattle.basin.proofs.contents.layout_ok.Tie as tie
+
+returns : tie.Need-returns
+returns c = sym (layout-short _ (c .if1 .taken))
+
+counts-ok-requires : tie.Need-counts-ok-requires
+counts-ok-requires c κs = search needs
+
+is-packed-requires : tie.Need-is-packed-requires
+is-packed-requires c κs = search needs
+
+both-requires : tie.Need-both-requires
+both-requires c κs = search needs
+
+returns-2 : tie.Need-returns-2
+returns-2 c = cc (layout-long _ (c .before .before .before .if1 .left))
+
+pub layout-ok-spec : {M : Type 1} → statement M
+layout-ok-spec =
+    tie.close (tie.spec returns counts-ok-requires is-packed-requires both-requires returns-2)

@@ -1,0 +1,95 @@
+-- `basin::rights::right_at` meets its contract. Assumes nothing.
+use borrow.Author.Needs.{needs}
+use Rattle.basin.specs.Records.{rightRecord}
+use Rattle.basin.proofs.rights.right_at.Statement.{statement}
+use Rattle.basin.proofs.rights.right_at.Tie as tie
+
+mul-at : tie.Need-mul-at
+mul-at c = search needs
+
+le32-requires : tie.Need-le32-requires
+le32-requires c κs = search needs
+
+add-le32 : tie.Need-add-le32
+add-le32 c = search needs
+
+le32-requires-2 : tie.Need-le32-requires-2
+le32-requires-2 c κs = search needs
+
+add-t7 : tie.Need-add-t7
+add-t7 c = search needs
+
+shared-slice-read-t9 : tie.Need-shared-slice-read-t9
+shared-slice-read-t9 c = search needs
+
+add-t10 : tie.Need-add-t10
+add-t10 c = search needs
+
+shared-slice-read-t12 : tie.Need-shared-slice-read-t12
+shared-slice-read-t12 c = search needs
+
+add-t13 : tie.Need-add-t13
+add-t13 c = search needs
+
+shared-slice-read-t15 : tie.Need-shared-slice-read-t15
+shared-slice-read-t15 c = search needs
+
+add-t16 : tie.Need-add-t16
+add-t16 c = search needs
+
+shared-slice-read-t18 : tie.Need-shared-slice-read-t18
+shared-slice-read-t18 c = search needs
+
+add-t19 : tie.Need-add-t19
+add-t19 c = search needs
+
+shared-slice-read-t21 : tie.Need-shared-slice-read-t21
+shared-slice-read-t21 c = search needs
+
+add-t22 : tie.Need-add-t22
+add-t22 c = search needs
+
+shared-slice-read-t24 : tie.Need-shared-slice-read-t24
+shared-slice-read-t24 c = search needs
+
+add-le16 : tie.Need-add-le16
+add-le16 c = search needs
+
+le16-requires : tie.Need-le16-requires
+le16-requires c κs = search needs
+
+add-le32-2 : tie.Need-add-le32-2
+add-le32-2 c = search needs
+
+le32-requires-3 : tie.Need-le32-requires-3
+le32-requires-3 c κs = search needs
+
+returns : tie.Need-returns
+unfolding rightRecord
+returns c = cc
+
+pub right-at-spec : {M : Type 1} → statement M
+right-at-spec =
+    tie.close
+    (tie.spec
+    mul-at
+    le32-requires
+    add-le32
+    le32-requires-2
+    add-t7
+    shared-slice-read-t9
+    add-t10
+    shared-slice-read-t12
+    add-t13
+    shared-slice-read-t15
+    add-t16
+    shared-slice-read-t18
+    add-t19
+    shared-slice-read-t21
+    add-t22
+    shared-slice-read-t24
+    add-le16
+    le16-requires
+    add-le32-2
+    le32-requires-3
+    returns)

@@ -1,0 +1,32 @@
+-- Numbers in a list of bytes: the least significant byte stands first (01: "little-endian there").
+use mathlib.Core.Bool.{Bool}
+use mathlib.Core.List.{List}
+use Prim.Native.Nat.{ℕ, _+_, _*_}
+use lib.Dec.{leb, eqb}
+use lib.ListN.{getD}
+use Rattle.general.specs.Sums.{sumTo}
+use Rattle.general.specs.Tests.{_and_, allTo}
+
+abbrev pub byteAt : List ℕ → ℕ → ℕ
+byteAt s i = getD s i 0
+
+unfoldable pub le16At : List ℕ → ℕ → ℕ
+le16At s i = byteAt s i + byteAt s (i + 1) * 256
+
+unfoldable pub le32At : List ℕ → ℕ → ℕ
+le32At s i = byteAt s i + byteAt s (i + 1) * 256 + byteAt s (i + 2) * 65536 + byteAt s (i + 3) * 16777216
+
+-- 3 zero bytes
+unfoldable pub threeZeros : List ℕ → ℕ → Bool
+threeZeros s i =
+    eqb (byteAt s i) 0
+    and eqb (byteAt s (i + 1)) 0
+    and eqb (byteAt s (i + 2)) 0
+
+-- n numbers of four bytes, each step bytes after the one before, are at most a limit
+unfoldable pub allAtMost : List ℕ → ℕ → ℕ → ℕ → ℕ → Bool
+allAtMost s i step n most = allTo n (λ k. leb (le32At s (i + step * k)) most)
+
+-- the sum of n bytes, each step bytes after the one before
+unfoldable pub byteSum : List ℕ → ℕ → ℕ → ℕ → ℕ
+byteSum s i step n = sumTo n (λ k. byteAt s (i + step * k))

@@ -1,0 +1,58 @@
+-- The check of a file: the lowest number that applies, with the first at fault (01, "Numbers for what is turned down").
+use mathlib.Core.Bool.{Bool, cond}
+use mathlib.Core.List.{List}
+use mathlib.Core.Option.{Option, none, some}
+use Prim.Native.Nat.{ℕ}
+use Rattle.general.specs.Tests.{firstFault}
+use Rattle.basin.specs.declared.Verdict.{Verdict}
+use Rattle.basin.specs.declared.Verdict.the-variants.{Accepted, Layout, Station, Reservoir, Pattern, Right}
+use Rattle.basin.specs.File.{layoutOk, sectionOf}
+use Rattle.basin.specs.Records.{rowsOf, reservoirCount, patternCount, rightCount}
+use Rattle.basin.specs.FileRules.{stationOk, reservoirOk, patternOk, rightOk}
+
+-- 01's number and place for each verdict
+abbrev pub numberOf : Verdict → ℕ
+numberOf Accepted = 0
+numberOf Layout = 1
+numberOf (Station i) = 2
+numberOf (Reservoir i) = 3
+numberOf (Pattern i) = 4
+numberOf (Right i) = 5
+
+abbrev pub placeOf : Verdict → ℕ
+placeOf Accepted = 0
+placeOf Layout = 0
+placeOf (Station i) = i
+placeOf (Reservoir i) = i
+placeOf (Pattern i) = i
+placeOf (Right i) = i
+
+-- accepted only if the test holds
+unfoldable pub onlyIf : Bool → Verdict → Verdict
+onlyIf t refusal = cond t Accepted refusal
+
+-- the first at fault, or what the later sections say
+unfoldable pub faultOr : (ℕ → Verdict) → Option ℕ → Verdict → Verdict
+faultOr v none later = later
+faultOr v (some i) later = v i
+
+-- the verdict on each body
+unfoldable pub stationsVerdict : List ℕ → Verdict → Verdict
+stationsVerdict st later = faultOr Station (firstFault (rowsOf st) (stationOk st)) later
+
+unfoldable pub reservoirsVerdict : List ℕ → List ℕ → Verdict → Verdict
+reservoirsVerdict st rs later = faultOr Reservoir (firstFault (reservoirCount rs) (reservoirOk st rs)) later
+
+unfoldable pub patternsVerdict : List ℕ → Verdict → Verdict
+patternsVerdict ps later = faultOr Pattern (firstFault (patternCount ps) (patternOk ps)) later
+
+unfoldable pub rightsVerdict : List ℕ → List ℕ → List ℕ → List ℕ → Verdict → Verdict
+rightsVerdict st rs ps s later = faultOr Right (firstFault (rightCount s) (rightOk st rs (patternCount ps) s)) later
+
+-- stations before reservoirs before patterns before rights
+unfoldable pub bodiesVerdict : List ℕ → List ℕ → List ℕ → List ℕ → Verdict
+bodiesVerdict st rs ps s = stationsVerdict st (reservoirsVerdict st rs (patternsVerdict ps (rightsVerdict st rs ps s Accepted)))
+
+-- The lowest number that applies: the layout's 1 before the bodies' 2 to 5.
+unfoldable pub checkOf : List ℕ → Verdict
+checkOf f = cond (layoutOk f) (bodiesVerdict (sectionOf f 0) (sectionOf f 1) (sectionOf f 2) (sectionOf f 3)) Layout

@@ -1,0 +1,34 @@
+//! The files of program `rivercheck` are the named cases, its expected lines
+//! are what the rules say of them, and every refusal from 1 to 5 is there.
+
+use river_tests::cases::cases;
+use river_tests::engine::check;
+use std::{collections::BTreeSet, fs, path::Path};
+
+#[test]
+fn files_and_lines_are_the_cases() {
+    let here = Path::new(env!("CARGO_MANIFEST_DIR"));
+    let folder = here.join("../crates/rivercheck");
+    let all = cases(&fs::read(here.join("../samples/provo.basin.bin")).unwrap());
+    let stdout = fs::read_to_string(folder.join("stdout")).unwrap();
+    let args = fs::read_to_string(folder.join("args")).unwrap();
+    assert_eq!(stdout.lines().count(), all.len() + 1);
+    assert_eq!(args.lines().count(), all.len() + 1);
+    for ((case, line), name) in all.iter().zip(stdout.lines()).zip(args.lines()) {
+        assert_eq!(format!("{line}\n"), case.line());
+        assert_eq!(name, case.name);
+        assert_eq!(fs::read(folder.join("data").join(name)).unwrap(), case.file, "{name}");
+        let (number, place) = case.answer;
+        assert_eq!(check(&case.file), (number, place as u32), "{name}");
+    }
+}
+
+#[test]
+fn every_refusal_is_there_and_no_name_twice() {
+    let all = cases(&[]);
+    for number in 0..=5 {
+        assert!(all.iter().any(|case| case.answer.0 == number), "{number}");
+    }
+    let names: BTreeSet<_> = all.iter().map(|case| &case.name).collect();
+    assert_eq!(names.len(), all.len());
+}
