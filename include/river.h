@@ -16,6 +16,23 @@ uint32_t river_check(const uint8_t *file, size_t length);
 /* The same number times 4294967296, plus the first record at fault, counted from 0. */
 uint64_t river_check_place(const uint8_t *file, size_t length);
 
+/* The numbers of a board. */
+#define RIVER_BOARD_LENGTH 970
+
+/* Writes the fresh board of a basin: its starting storages, nothing taken, nothing due. Answers 0, or the number of a refusal times
+   4294967296, plus its place; then the board is as it was. 1 to 5: the file, as above; 6: the board's length. */
+uint64_t river_fresh(const uint8_t *file, size_t length, uint64_t *board, size_t board_length);
+
+/* All water stored and all water on its way back, in a board of the basin. */
+struct river_sums {
+    uint32_t number; /* 0, or a refusal: 1 to 5 the file, 6 the board's length, 7 a board that no run of months can leave */
+    uint32_t place;
+    uint64_t storage; /* 0 where the board is refused */
+    uint64_t due;
+};
+
+struct river_sums river_stock(const uint8_t *file, size_t length, const uint64_t *board, size_t board_length);
+
 #ifdef __cplusplus
 }
 #endif

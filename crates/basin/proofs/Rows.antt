@@ -1,4 +1,4 @@
--- Laws of the row below and of paths, at a body of stations. Assumes nothing.
+-- Laws of the row below, at a body of stations, and of the rules of a row. Assumes nothing.
 use mathlib.Core.Path.{_≡_, refl, sym, ap, _∙_}
 use mathlib.Core.Bool.{Bool, true, false, _||_}
 use mathlib.Core.List.{List}
@@ -9,13 +9,11 @@ use native.Mathlib.Omega.{arith}
 use borrow.Author.Tests.{eq-eqb, ne-eqb}
 use lib.Dec.{eqb}
 use lib.ListN.{length}
-use Rattle.general.specs.Tests.{_and_, has, firstAt, isSome}
+use Rattle.general.specs.Tests.{_and_, firstAt, isSome}
 use Rattle.general.proofs.Loops.{search-here, search-on, search-over, and-no, and-not}
 use Rattle.general.proofs.Tests.{and-of}
-use Rattle.general.proofs.Search.{has-other, has-single}
 use Rattle.rules.specs.Basin.{Station, noStation, stationAt}
-use Rattle.rules.specs.Path.{carriesOn, rowBelow, path}
-use Rattle.rules.proofs.Path.{below-later, path-row, path-end, path-self}
+use Rattle.rules.specs.Path.{carriesOn, rowBelow}
 use Rattle.basin.specs.declared.network.Below.{Below}
 use Rattle.basin.specs.declared.network.Below.the-variants.{Row, Nothing}
 use Rattle.basin.specs.Records.{rowsOf, stationOf, stationsOf}
@@ -63,18 +61,15 @@ module _ (s : List ℕ) (o j : ℕ) (h : j < rowsOf s) where
 pub below-none : (s : List ℕ) (o j : ℕ) → rowsOf s ≤ j → belowFrom s o j ≡ Nothing
 below-none s o j h = ap belowOf (search-over _ (rowsOf s) j h)
 
--- ---- what the answer says of the path
+-- ---- what the answer says
 
-to-row : (o : Option ℕ) (q : ℕ) → belowOf o ≡ Row q → o ≡ some q
+pub to-row : (o : Option ℕ) (q : ℕ) → belowOf o ≡ Row q → o ≡ some q
 to-row none q e = let z : _≡_ {A = ℕ} 0 1 = cc in absurd (omega arith)
 to-row (some x) q e = let z : x ≡ q = cc in ap some z
 
-to-none : (o : Option ℕ) → belowOf o ≡ Nothing → o ≡ none
+pub to-none : (o : Option ℕ) → belowOf o ≡ Nothing → o ≡ none
 to-none none e = refl
 to-none (some x) e = let z : _≡_ {A = ℕ} 0 1 = cc in absurd (omega arith)
-
-pub on-here : (s : List ℕ) (i k : ℕ) → i < rowsOf s → k ≡ i → has k (path (stationsOf s) i) ≡ true
-on-here s i k h e = rw e (path-self (stationsOf s) i (rw (rows-are s) h))
 
 module _ (s : List ℕ) (i : ℕ) (b : Below) (e : b ≡ belowOf (rowBelow (stationsOf s) i)) where
   pub some-below : (q : ℕ) → b ≡ Row q → isSome (rowBelow (stationsOf s) i) ≡ true
@@ -82,19 +77,6 @@ module _ (s : List ℕ) (i : ℕ) (b : Below) (e : b ≡ belowOf (rowBelow (stat
 
   pub none-below : b ≡ Nothing → isSome (rowBelow (stationsOf s) i) ≡ false
   none-below g = rw (to-none (rowBelow (stationsOf s) i) (sym e ∙ g))
-
-  module _ (h : i < rowsOf s) (k : ℕ) where
-    within : i < length (stationsOf s)
-    within = rw (rows-are s) h
-
-    pub row-later : (q : ℕ) → b ≡ Row q → (i < q) × (q < rowsOf s)
-    row-later q g = let w = below-later (stationsOf s) i q (to-row _ q (sym e ∙ g)) in let n = rows-are s in (w .0, omega arith)
-
-    pub on-below : (q : ℕ) → b ≡ Row q → (k ≡ i → ⊥) → has k (path (stationsOf s) i) ≡ has k (path (stationsOf s) q)
-    on-below q g ne = rw (path-row (stationsOf s) i q within (to-row _ q (sym e ∙ g))) (has-other k i (path (stationsOf s) q) ne)
-
-    pub on-end : b ≡ Nothing → (k ≡ i → ⊥) → has k (path (stationsOf s) i) ≡ false
-    on-end g ne = rw (path-end (stationsOf s) i within (to-none _ (sym e ∙ g))) (has-single k i ne)
 
 -- ---- the rules of a row
 

@@ -1,6 +1,6 @@
 // The check of a whole file: its layout, then its bodies in order. It takes any bytes, and every answer is a verdict.
 ghost use mathlib.Core.Path.{_≡_};
-ghost use Prim.Native.Nat.{_<_};
+ghost use Prim.Native.Nat.{_≤_, _<_};
 ghost use Rattle.basin.specs.Records.{rowsOf};
 ghost use Rattle.basin.specs.Check.{numberOf, placeOf, bodiesVerdict, checkOf};
 use crate::Verdict;
@@ -17,7 +17,7 @@ use crate::stations::check_stations;
 
 // Stations come first, so that the rows that later bodies name are known to be good.
 fn check_bodies(stations: &[u8], reservoirs: &[u8], patterns: &[u8], rights: &[u8]) -> Verdict
-    requires { ⌜ 0 < rowsOf (now stations) ⌝ }
+    requires { ⌜ (0 < rowsOf (now stations)) × (rowsOf (now stations) ≤ 64) ⌝ }
     ensures { λ r. ⌜ r ≡ bodiesVerdict (now (stations .entry)) (now (reservoirs .entry)) (now (patterns .entry)) (now (rights .entry)) ⌝ }
 {
     let on_stations = check_stations(stations);

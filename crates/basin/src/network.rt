@@ -1,10 +1,11 @@
-// The river's network, read off the body of stations: the row below a row, and the path of a row.
+// The river's network, read off the body of stations: the row below a row, the table of all rows below, and the path of a row.
 ghost use mathlib.Core.Path.{_≡_};
-ghost use Prim.Native.Nat.{_<_};
+ghost use Prim.Native.Nat.{_≤_, _<_};
 ghost use Rattle.general.specs.Tests.{has};
-ghost use Rattle.rules.specs.Path.{rowBelow, path};
+ghost use Rattle.rules.specs.Path.{rowBelow};
 ghost use Rattle.basin.specs.Records.{rowsOf, stationsOf};
 ghost use Rattle.basin.specs.Network.{belowOf, orderAt};
+ghost use Rattle.basin.specs.Table.{belowCode, tableOf, stepOf, pathBy, OnTable};
 use crate::bytes::index;
 
 // The next station downstream, where there is one.
@@ -42,16 +43,53 @@ pub fn row_below(stations: &[u8], row: usize) -> Below
     Below::Nothing
 }
 
-// Whether the target is on the row's path: it is the row itself, or on the path of the row below.
-pub fn on_path(stations: &[u8], row: usize, target: usize) -> bool
-    requires { ⌜ row < rowsOf (now stations) ⌝ }
-    ensures { λ r. ⌜ r ≡ has target (path (stationsOf (now (stations .entry))) row) ⌝ }
+// The number that stands for a row below in the table. No row has the number 255.
+fn code(stations: &[u8], row: usize) -> u8
+    requires { ⌜ (row < rowsOf (now stations)) × (rowsOf (now stations) ≤ 64) ⌝ }
+    ensures { λ r. ⌜ r ≡ belowCode (rowBelow (stationsOf (now (stations .entry))) row) ⌝ }
+{
+    let Below::Row(next) = row_below(stations, row) else {
+        return 255;
+    };
+    (next % 256) as u8
+}
+
+// The row below each row, looked up once for all walks.
+pub fn rows_below(stations: &[u8]) -> [u8; 64]
+    requires { ⌜ rowsOf (now stations) ≤ 64 ⌝ }
+    ensures { λ r. ⌜ r ≡ tableOf (stationsOf (now (stations .entry))) ⌝ }
+{
+    let mut below = [255u8; 64];
+    let n = stations.len() / 8;
+    for row in 0..n {
+        below[row] = code(stations, row);
+    }
+    below
+}
+
+// The row below, by the table.
+pub fn next_row(below: &[u8; 64], row: usize) -> Below
+    requires { ⌜ row < 64 ⌝ }
+    ensures { λ r. ⌜ r ≡ belowOf (stepOf (now (below .entry)) row) ⌝ }
+{
+    let next = index(below[row]);
+    if next < 64 {
+        return Below::Row(next);
+    }
+    Below::Nothing
+}
+
+// Whether the target is on the row's path: it is the row itself, or on the path of the row below. All that it is given fits in registers,
+// the table being an array, so that the call at the end costs no more than a turn of a loop.
+pub fn on_path(below: &[u8; 64], row: usize, target: usize) -> bool
+    requires { ⌜ OnTable (now below) row ⌝ }
+    ensures { λ r. ⌜ r ≡ has target (pathBy (now (below .entry)) row) ⌝ }
 {
     if target == row {
         return true;
     }
-    let Below::Row(next) = row_below(stations, row) else {
+    let Below::Row(next) = next_row(below, row) else {
         return false;
     };
-    on_path(stations, next, target)
+    on_path(below, next, target)
 }

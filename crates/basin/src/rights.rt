@@ -1,9 +1,11 @@
 // The rights and their rules.
+ghost use mathlib.Core.List.{List};
 ghost use mathlib.Core.Path.{_≡_};
-ghost use Prim.Native.Nat.{_≤_, _<_};
+ghost use Prim.Native.Nat.{ℕ, _≤_, _<_};
 ghost use Rattle.general.specs.Sums.{sumTo};
-ghost use Rattle.basin.specs.Records.{rightCount, rightRecord, returnRow, returnPercent};
+ghost use Rattle.basin.specs.Records.{rowsOf, rightCount, rightRecord, returnRow, returnPercent};
 ghost use Rattle.basin.specs.FileRules.{dateOk, limitOk, headingOk, sourceOk, pointOk, eachPointOk, pointsOk, returnsOk, unusedOk, amountsOk, earlier, rightRises, rightOk, GoodRows};
+ghost use Rattle.basin.specs.Table.{TableFor, ReservoirsOn};
 ghost use Rattle.basin.specs.Check.{rightsVerdict};
 use crate::Verdict;
 use crate::bytes::all_at_most;
@@ -16,6 +18,7 @@ use crate::conditions::both;
 use crate::conditions::either;
 use crate::conditions::in_range;
 use crate::network::on_path;
+use crate::network::rows_below;
 use crate::reservoirs::reservoir_at;
 
 // The first 20 bytes of a right's record. Its amounts and return points are read where they stand, when they are asked for.
@@ -98,9 +101,10 @@ fn heading_ok(n: usize, r: RightRecord) -> bool
 }
 
 // The reservoir that the right names, and where the right stands to it. Only a project right needs a walk down the river.
-fn source_ok(stations: &[u8], reservoirs: &[u8], r: RightRecord) -> bool
-    requires { ⌜ GoodRows (now stations) (now reservoirs) ⌝ }
-    ensures { λ b. ⌜ b ≡ sourceOk (now (stations .entry)) (now (reservoirs .entry)) r ⌝ }
+// The promise is for the stations that the table was made from.
+fn source_ok(below: &[u8; 64], reservoirs: &[u8], r: RightRecord) -> bool
+    requires { ⌜ ReservoirsOn (now below) (now reservoirs) ⌝ }
+    ensures { λ b. ⌜ ((st : List ℕ) → TableFor st (now (below .entry)) → GoodRows st (now (reservoirs .entry)) → b ≡ sourceOk st (now (reservoirs .entry)) r) ⌝ }
 {
     if either(r.kind == 1, r.kind == 3) {
         return r.reservoir == 255;
@@ -113,7 +117,7 @@ fn source_ok(stations: &[u8], reservoirs: &[u8], r: RightRecord) -> bool
     if r.kind == 4 {
         return r.row == behind.row;
     }
-    on_path(stations, index(behind.row), index(r.row))
+    on_path(below, index(behind.row), index(r.row))
 }
 
 fn point_ok(n: usize, from: usize, row: usize, percent: u8) -> bool
@@ -213,8 +217,15 @@ fn right_rises(rights: &[u8], i: usize) -> bool
 }
 
 // All rules of one right; np is the number of patterns.
-fn right_ok(stations: &[u8], reservoirs: &[u8], np: usize, rights: &[u8], i: usize) -> bool
-    requires { ⌜ (i < rightCount (now rights)) × GoodRows (now stations) (now reservoirs) ⌝ }
+fn right_ok(
+    stations: &[u8],
+    below: &[u8; 64],
+    reservoirs: &[u8],
+    np: usize,
+    rights: &[u8],
+    i: usize,
+) -> bool
+    requires { ⌜ (i < rightCount (now rights)) × TableFor (now stations) (now below) × GoodRows (now stations) (now reservoirs) ⌝ }
     ensures { λ b. ⌜ b ≡ rightOk (now (stations .entry)) (now (reservoirs .entry)) np (now (rights .entry)) i ⌝ }
 {
     let r = right_at(rights, i);
@@ -224,24 +235,40 @@ fn right_ok(stations: &[u8], reservoirs: &[u8], np: usize, rights: &[u8], i: usi
         return false;
     }
     let ruled = both(
-        source_ok(stations, reservoirs, r),
+        source_ok(below, reservoirs, r),
         returns_ok(n, np, rights, i, r),
     );
     let paired = both(ruled, unused_ok(rights, i, index(r.points)));
     both(both(paired, amounts_ok(rights, i)), right_rises(rights, i))
 }
 
-// The first right at fault. The rows of the reservoirs are known to be stations' rows by now.
-pub fn check_rights(stations: &[u8], reservoirs: &[u8], patterns: &[u8], rights: &[u8]) -> Verdict
-    requires { ⌜ GoodRows (now stations) (now reservoirs) ⌝ }
+// The first right at fault, by the table of the rows below.
+fn check_each(
+    stations: &[u8],
+    below: &[u8; 64],
+    reservoirs: &[u8],
+    patterns: &[u8],
+    rights: &[u8],
+) -> Verdict
+    requires { ⌜ TableFor (now stations) (now below) × GoodRows (now stations) (now reservoirs) ⌝ }
     ensures { λ r. ⌜ r ≡ rightsVerdict (now (stations .entry)) (now (reservoirs .entry)) (now (patterns .entry)) (now (rights .entry)) Verdict.Accepted ⌝ }
 {
     let np = patterns.len() / 12;
     let n = rights.len() / 76;
     for i in 0..n {
-        if !right_ok(stations, reservoirs, np, rights, i) {
+        if !right_ok(stations, below, reservoirs, np, rights, i) {
             return Verdict::Right(i);
         }
     }
     Verdict::Accepted
+}
+
+// The first right at fault. The rows of the reservoirs are known to be stations' rows by now. Many rights may walk down the river, so the
+// rows below are looked up before the first.
+pub fn check_rights(stations: &[u8], reservoirs: &[u8], patterns: &[u8], rights: &[u8]) -> Verdict
+    requires { ⌜ (rowsOf (now stations) ≤ 64) × GoodRows (now stations) (now reservoirs) ⌝ }
+    ensures { λ r. ⌜ r ≡ rightsVerdict (now (stations .entry)) (now (reservoirs .entry)) (now (patterns .entry)) (now (rights .entry)) Verdict.Accepted ⌝ }
+{
+    let below = rows_below(stations);
+    check_each(stations, &below, reservoirs, patterns, rights)
 }

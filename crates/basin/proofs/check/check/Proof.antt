@@ -1,7 +1,7 @@
--- `basin::check::check` meets its contract. An accepted layout has a station. Assumes nothing.
+-- `basin::check::check` meets its contract. An accepted layout has 1 to 64 stations. Assumes nothing.
 use mathlib.Core.Path.{_≡_, sym, _∙_}
 use mathlib.Core.Bool.{true}
-use Prim.Native.Nat.{_<_}
+use Prim.Native.Nat.{_≤_, _<_}
 use native.Mathlib.Omega.{arith}
 use borrow.Author.Tests.{not-true, not-false}
 use borrow.Author.Needs.{needs}
@@ -36,7 +36,8 @@ check-bodies-requires c κs =
     let f = now (c .before .before .before .before .before .before .before .args .file) in
     let e : layoutOk f ≡ true = sym (c .before .before .before .before .before .layout-ok .ensures) ∙ not-false _ (c .before .before .before .before .if1 .left) in
     let n : 0 < rowsOf (sectionOf f 0) = omega (arith, laid f e .stations, rows-counted f e) in
-    rw (c .before .before .before .section .ensures) n
+    let m : rowsOf (sectionOf f 0) ≤ 64 = omega (arith, laid f e .stations, rows-counted f e) in
+    (rw (c .before .before .before .section .ensures) n, rw (c .before .before .before .section .ensures) m)
 
 returns-2 : tie.Need-returns-2
 returns-2 c =

@@ -34,7 +34,10 @@ returns-3 : tie.Need-returns-3
 returns-3 c = at-patterns _ _ _ _ (sym (c .before .before .before .before .before .before .before .check-stations .ensures) ∙ c .before .before .before .before .before .enum-told .given .1) (sym (c .before .before .before .before .check-reservoirs .ensures) ∙ c .before .before .enum-told2 .given .1) _ (c .before .check-patterns .ensures) (refused _ (c .match3 .keys2))
 
 check-rights-requires : tie.Need-check-rights-requires
-check-rights-requires c κs = let a = c .before .before .before .before .before .before .before .before .before .before .before .before .before .args in rows-good (now (a .stations)) (now (a .reservoirs)) (now (a .patterns)) (now (a .rights)) (sym (c .before .before .before .before .before .check-reservoirs .ensures) ∙ c .before .before .before .enum-told2 .given .1)
+check-rights-requires c κs =
+    let b = c .before .before .before .before .before .before .before .before .before .before .before .before .before in
+    let a = b .args in
+    (b .pre .1, rows-good (now (a .stations)) (now (a .reservoirs)) (now (a .patterns)) (now (a .rights)) (sym (c .before .before .before .before .before .check-reservoirs .ensures) ∙ c .before .before .before .enum-told2 .given .1))
 
 returns-4 : tie.Need-returns-4
 returns-4 c = c .check-rights .ensures ∙ sym (at-rights _ _ _ _ (sym (c .before .before .before .before .before .before .before .before .before .check-stations .ensures) ∙ c .before .before .before .before .before .before .before .enum-told .given .1) (sym (c .before .before .before .before .before .before .check-reservoirs .ensures) ∙ c .before .before .before .before .enum-told2 .given .1) (sym (c .before .before .before .check-patterns .ensures) ∙ c .before .enum-told3 .given .1))

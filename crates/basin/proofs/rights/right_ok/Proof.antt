@@ -7,6 +7,7 @@ use denote.Ref.{now}
 use Rattle.basin.specs.Records.{rowsOf, rightRecord}
 use Rattle.basin.specs.FileRules.{headingOk}
 use Rattle.basin.proofs.Cases.{heading-bad, right-ruled, few-points}
+use Rattle.basin.proofs.Table.{reservoirs-on}
 use Rattle.basin.proofs.rights.right_ok.Statement.{statement}
 use Rattle.basin.proofs.rights.right_ok.Tie as tie
 
@@ -23,7 +24,7 @@ returns c =
     sym (heading-bad _ _ _ _ _ e)
 
 source-ok-requires : tie.Need-source-ok-requires
-source-ok-requires c κs = search needs
+source-ok-requires c κs = let b = c .before .before .before .before .before .before in reservoirs-on (now (b .args .stations)) (now (b .args .below)) (b .pre .1) (now (b .args .reservoirs)) (b .pre .2)
 
 returns-ok-requires : tie.Need-returns-ok-requires
 returns-ok-requires c κs = (c .before .before .before .before .before .before .before .pre .0, few-points _ _ (sym (c .before .before .heading-ok .ensures) ∙ not-false _ (c .before .if1 .left)))
@@ -55,7 +56,7 @@ both-requires-4 c κs = search needs
 returns-2 : tie.Need-returns-2
 returns-2 c =
     right-ruled _ _ _ _ _ (c .before .before .before .before .before .before .before .before .before .before .before .before .right-at .ensures) (c .before .before .before .before .before .before .index .ensures .0) (sym (c .before .before .before .before .before .before .before .before .before .before .before .heading-ok .ensures) ∙ not-false _ (c .before .before .before .before .before .before .before .before .before .before .if1 .left))
-    (c .before .before .before .before .before .before .before .before .before .source-ok .ensures) (c .before .before .before .before .before .before .before .before .returns-ok .ensures) (c .before .before .before .before .before .unused-ok .ensures) (c .before .before .before .amounts-ok .ensures) (c .before .right-rises .ensures)
+    (c .before .before .before .before .before .before .before .before .before .source-ok .ensures _ (c .before .before .before .before .before .before .before .before .before .before .before .before .before .before .before .before .pre .1) (c .before .before .before .before .before .before .before .before .before .before .before .before .before .before .before .before .pre .2)) (c .before .before .before .before .before .before .before .before .returns-ok .ensures) (c .before .before .before .before .before .unused-ok .ensures) (c .before .before .before .amounts-ok .ensures) (c .before .right-rises .ensures)
     (c .before .before .before .before .before .before .before .both .ensures) (c .before .before .before .before .both2 .ensures) (c .before .before .both3 .ensures) (c .both4 .ensures)
 
 pub right-ok-spec : {M : Type 1} → statement M

@@ -5,6 +5,7 @@ use borrow.Author.Needs.{needs}
 use denote.Ref.{now}
 use Rattle.basin.specs.Records.{reservoirRecord}
 use Rattle.basin.proofs.Cases.{source-none, source-out, source-stored, source-path}
+use Rattle.basin.proofs.Table.{walk-is}
 use Rattle.basin.proofs.rights.source_ok.Statement.{statement}
 use Rattle.basin.proofs.rights.source_ok.Tie as tie
 
@@ -12,19 +13,19 @@ either-requires : tie.Need-either-requires
 either-requires c κs = search needs
 
 returns : tie.Need-returns
-returns c = let a = c .before .before .before .before .before .before .before .args in cc (source-none (now (a .stations)) (now (a .reservoirs)) (a .r) (sym (c .before .before .either .ensures) ∙ c .before .if1 .taken))
+returns c = λ st k g. let a = c .before .before .before .before .before .before .args in cc (source-none st (now (a .reservoirs)) (a .r) (sym (c .before .before .either .ensures) ∙ c .before .if1 .taken))
 
 index-requires : tie.Need-index-requires
 index-requires c κs = search needs
 
 returns-2 : tie.Need-returns-2
-returns-2 c = let a = c .before .before .before .before .before .before .before .before .args in sym (source-out (now (a .stations)) (now (a .reservoirs)) (a .r) (sym (c .before .before .before .either .ensures) ∙ c .before .before .if1 .left) (omega arith))
+returns-2 c = λ st k g. let a = c .before .before .before .before .before .before .before .args in sym (source-out st (now (a .reservoirs)) (a .r) (sym (c .before .before .before .either .ensures) ∙ c .before .before .if1 .left) (omega arith))
 
 reservoir-at-requires : tie.Need-reservoir-at-requires
 reservoir-at-requires c κs = search needs
 
 returns-3 : tie.Need-returns-3
-returns-3 c = let a = c .before .before .before .before .before .before .before .before .before .before .before .before .before .args in cc (source-stored (now (a .stations)) (now (a .reservoirs)) (a .r) (sym (c .before .before .before .before .before .before .before .before .either .ensures) ∙ c .before .before .before .before .before .before .before .if1 .left) (omega arith) (c .before .before .if3 .taken))
+returns-3 c = λ st k g. let a = c .before .before .before .before .before .before .before .before .before .before .before .before .args in cc (source-stored st (now (a .reservoirs)) (a .r) (sym (c .before .before .before .before .before .before .before .before .either .ensures) ∙ c .before .before .before .before .before .before .before .if1 .left) (omega arith) (c .before .before .if3 .taken))
 
 index-requires-2 : tie.Need-index-requires-2
 index-requires-2 c κs = search needs
@@ -34,12 +35,18 @@ index-requires-3 c κs = search needs
 
 on-path-requires : tie.Need-on-path-requires
 on-path-requires c κs =
-    let a = c .before .before .before .before .before .before .before .before .before .before .before .before .before .args in
-    let e : c .before .index2 .result ≡ (reservoirRecord (now (a .reservoirs)) (c .before .before .before .before .before .before .index .result)) .row = cc in
-    omega (arith, c .before .before .before .before .before .before .before .before .before .before .before .before .before .pre .row-in (c .before .before .before .before .before .before .index .result) (omega arith))
+    let b = c .before .before .before .before .before .before .before .before .before .before .before .before in
+    let v = c .before .before .before .before .before .before .index .result in
+    let e : c .before .index2 .result ≡ (reservoirRecord (now (b .args .reservoirs)) v) .row = cc in
+    record { downhill = b .pre .downhill; on = omega (arith, b .pre .row-in v (omega arith)) }
 
 returns-4 : tie.Need-returns-4
-returns-4 c = let a = c .before .before .before .before .before .before .before .before .before .before .before .before .before .before .args in cc (source-path (now (a .stations)) (now (a .reservoirs)) (a .r) (sym (c .before .before .before .before .before .before .before .before .before .either .ensures) ∙ c .before .before .before .before .before .before .before .before .if1 .left) (omega arith) (c .before .before .before .if3 .left))
+returns-4 c = λ st k g.
+    let b = c .before .before .before .before .before .before .before .before .before .before .before .before .before in
+    let v = c .before .before .before .before .before .before .before .index .result in
+    let e : c .before .before .index2 .result ≡ (reservoirRecord (now (b .args .reservoirs)) v) .row = cc in
+    let w = walk-is st (now (b .args .below)) k (c .before .before .index2 .result) (c .before .index3 .result) (omega (arith, g .row-in v (omega arith))) in
+    cc (w, source-path st (now (b .args .reservoirs)) (b .args .r) (sym (c .before .before .before .before .before .before .before .before .before .either .ensures) ∙ c .before .before .before .before .before .before .before .before .if1 .left) (omega arith) (c .before .before .before .if3 .left))
 
 pub source-ok-spec : {M : Type 1} → statement M
 source-ok-spec =

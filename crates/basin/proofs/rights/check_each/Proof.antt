@@ -1,5 +1,5 @@
--- `basin::rights::check_rights` meets its contract. The loop's invariant: the rights not yet looked at give the verdict. Assumes nothing.
-use mathlib.Core.Path.{_≡_, refl, sym, _∙_}
+-- `basin::rights::check_each` meets its contract. The loop's invariant: the rights not yet looked at give the verdict. Assumes nothing.
+use mathlib.Core.Path.{_≡_, refl, _∙_}
 use Prim.Native.Nat.{_-_, _≤_}
 use native.Mathlib.Omega.{arith}
 use borrow.Author.Needs.{needs}
@@ -10,21 +10,21 @@ use Rattle.basin.specs.Records.{patternCount, rightCount}
 use Rattle.basin.specs.FileRules.{rightOk}
 use Rattle.basin.specs.Check.{rightsVerdict}
 use Rattle.basin.proofs.Faults.{verdictFrom, verdict-all, verdict-good, verdict-bad, verdict-done}
-use Rattle.basin.proofs.rights.check_rights.Statement.{statement}
-use Rattle.basin.proofs.rights.check_rights.Tie as tie
+use Rattle.basin.proofs.rights.check_each.Statement.{statement}
+use Rattle.basin.proofs.rights.check_each.Tie as tie
 
 abbrev Inv-loop : tie.InvT-loop
-Inv-loop stations reservoirs patterns rights np n i₀ i = (n ≡ rightCount rights) × (i ≤ n) × (verdictFrom Right (rightOk stations reservoirs np rights) n i ≡ rightsVerdict stations reservoirs patterns rights Accepted)
+Inv-loop stations below reservoirs patterns rights np n i₀ i = (n ≡ rightCount rights) × (i ≤ n) × (verdictFrom Right (rightOk stations reservoirs np rights) n i ≡ rightsVerdict stations reservoirs patterns rights Accepted)
 
 abbrev μ-loop : tie.MeasureT-loop
-μ-loop stations reservoirs patterns rights np n i₀ i = n - i
+μ-loop stations below reservoirs patterns rights np n i₀ i = n - i
 
 loop-holds : tie.Need-loop-holds Inv-loop μ-loop
 unfolding rightsVerdict
 loop-holds c = (refl, omega arith, verdict-all _ _ _)
 
 right-ok-requires : tie.Need-right-ok-requires Inv-loop μ-loop
-right-ok-requires c κs = (omega arith, c .before .before .before .before .before .before .pre)
+right-ok-requires c κs = (omega arith, c .before .before .before .before .before .before .pre .0, c .before .before .before .before .before .before .pre .1)
 
 returns : tie.Need-returns Inv-loop μ-loop
 returns c = let a = c .before .before .before .before .before .before .before .before .args in verdict-bad Right (rightOk (now (a .stations)) (now (a .reservoirs)) (patternCount (now (a .patterns))) (now (a .rights))) _ (c .before .before .before .loop .i) (c .before .right-ok .ensures) (not-true _ (c .if1 .taken)) (omega arith) (c .before .before .before .loop .inv .2)
@@ -41,8 +41,8 @@ loop-again c = let a = c .before .before .before .before .before .before .before
 returns-2 : tie.Need-returns-2 Inv-loop μ-loop
 returns-2 c = let a = c .before .before .before .before .before .before .args in verdict-done Right (rightOk (now (a .stations)) (now (a .reservoirs)) (patternCount (now (a .patterns))) (now (a .rights))) _ (c .before .loop .i) (omega arith) ∙ c .before .loop .inv .2
 
-pub check-rights-spec : {M : Type 1} → statement M
-check-rights-spec =
+pub check-each-spec : {M : Type 1} → statement M
+check-each-spec =
     tie.close
     (tie.spec
     Inv-loop

@@ -1,0 +1,98 @@
+-- The board that the tally keeps: it is possible, runs the tally's month, and becomes the tally's next board. Assumes nothing.
+use mathlib.Core.Path.{_≡_, refl, sym, ap, _∙_}
+use mathlib.Core.Bool.{Bool, true, false, cond}
+use mathlib.Core.List.{List, [], _∷_, _++_}
+use mathlib.Core.Option.{Option, none, some}
+use Prim.Native.Nat.{ℕ, zero, suc, _+_, _-_, _*_, _^_, _≤_, _<_}
+use native.Mathlib.Omega.{arith}
+use native.Mathlib.Decide.{decLt}
+use lib.Dec.{leb, ltb, eqb}
+use lib.ListN.{length, getD}
+use Rattle.general.specs.Sums.{only}
+use Rattle.general.specs.Tables.{tab}
+use Rattle.general.specs.Tests.{_and_, allTo}
+use Rattle.general.proofs.Tests.{eqb-same, leb-yes, ltb-yes, ltb-no, and-of}
+use Rattle.general.proofs.Search.{all-make}
+use Rattle.general.proofs.Tables.{tab-same}
+use Rattle.rules.specs.Basin.{Basin, rows, reservoirAt, rightAt}
+use Rattle.rules.specs.Month.{Carried, returnsAt, MonthRun, month}
+use Rattle.rules.specs.Tally.{Call, Answer, reportLength, overLimit, overAnswer, judged, refusal, freshCarried, Tally, fresh, pending, pendingFrom, arriving, nextRun, accept}
+use Rattle.rules.specs.Accepted.{Accepted}
+use Rattle.rules.specs.Theorems.{mostDue, Possible}
+use Rattle.rules.proofs.Pending.{pending-on, pending-ends}
+use Rattle.ledger.specs.Board.{monthAt, storageAt, marksAt, takenAt, dueAt, carriedOf, boardOf, possible}
+use Rattle.ledger.specs.Calls.{orElse, unless, boardFits, listsFit, freshBoard, runOf, dueAfter, boardAfter}
+use Rattle.ledger.specs.Demand3.{tallyBoard}
+use Rattle.ledger.proofs.Board.{Counted, board-length, month-place, storage-place, marks-place, taken-place, due-place, due-of-row, word-less, read-back, board-same}
+
+written : (b : Basin) (t : Tally) → boardOf b (t .carried) (pending b (t .months)) ≡ tallyBoard b t
+unfolding tallyBoard
+written b t = refl
+
+module _ (b : Basin) (acc : Accepted b) (t : Tally) (p : Possible b t) where
+  counted : Counted b (t .carried)
+  counted = record { storages = p .storages-count; marks = p .marks-count; taken = p .taken-count }
+
+  -- ---- possible
+
+  due-within : (w k : ℕ) → w < 64 → k < 11 → leb (dueAt (tallyBoard b t) w (suc k)) (only (ltb w (rows b)) (mostDue (suc k))) ≡ true
+  unfolding tallyBoard
+  due-within w k h l = leb-yes _ _ (pick (ltb w (rows b)))
+    where
+      place : dueAt (boardOf b (t .carried) (pending b (t .months))) w (suc k) ≡ only (ltb w (rows b)) (pending b (t .months) w (suc k))
+      place = due-place b (t .carried) (pending b (t .months)) w k h l
+
+      most : (q : Bool) → only q (pending b (t .months) w (suc k)) ≤ only q (mostDue (suc k))
+      most true = p .due-most w (suc k) (omega arith)
+      most false = omega arith
+
+      pick : (q : Bool) → dueAt (boardOf b (t .carried) (pending b (t .months))) w (suc k) ≤ only (ltb w (rows b)) (mostDue (suc k))
+      pick q = omega (arith, place, most (ltb w (rows b)))
+
+  pub tally-possible : possible b (tallyBoard b t) ≡ true
+  unfolding possible tallyBoard
+  tally-possible =
+      let due : ℕ → ℕ → ℕ = pending b (t .months) in
+      let c : Carried = t .carried in
+      let l : List ℕ = boardOf b c due in
+      and-of (and-of (and-of (and-of
+      (ltb-yes (monthAt l) 12 (omega (arith, month-place b c due, p .month-in-year)))
+      (all-make 8 _ (λ v h. leb-yes (storageAt l v) ((reservoirAt b v) .capacity) (omega (arith, storage-place b c due v h, p .storages-most v)))))
+      (ltb-yes (marksAt l) (2 ^ length (b .reservoirs)) (omega (arith, marks-place b c due, rw (p .marks-count) at (word-less (c .marks))))))
+      (all-make 256 _ (λ i h. leb-yes (takenAt l i) ((rightAt b i) .limit) (omega (arith, taken-place b c due i h, p .taken-most i)))))
+      (all-make 64 _ (λ w h. all-make 11 _ (λ k m. due-within w k h m)))
+
+  -- ---- the month that it runs
+
+  pub tally-run : (runoff : List ℕ) (n : ℕ) → runOf b runoff (tallyBoard b t) ≡ nextRun b t (record { runoff = runoff; report = n })
+  unfolding runOf nextRun tallyBoard arriving
+  tally-run runoff n = λ z. month b (read-back b acc (t .carried) (pending b (t .months)) counted z) runoff
+      (tab-same (rows b) (λ w. dueAt (boardOf b (t .carried) (pending b (t .months))) w 1) (λ w. pending b (t .months) w 1)
+      (λ w h. due-of-row b (t .carried) (pending b (t .months)) w 0 h (acc .few-rows) (omega arith)) z)
+
+  -- ---- the board that it leaves
+
+  due-on : (h : MonthRun) (w k : ℕ) → w < rows b → k < 11 → dueAfter b h (tallyBoard b t) w (suc k) ≡ pending b (t .months ++ (h ∷ [])) w (suc k)
+  unfolding dueAfter tallyBoard
+  due-on h w k l m = omega (arith, pending-on b h w (t .months) (suc k) (omega arith), moved (decLt (suc k) 11))
+    where
+      board : List ℕ
+      board = boardOf b (t .carried) (pending b (t .months))
+
+      moved : Dec (suc k < 11) → only (ltb (suc k) 11) (dueAt board w (suc (suc k))) ≡ pending b (t .months) w (suc (suc k))
+      moved (yes q) = rw (ltb-yes (suc k) 11 q) (due-of-row b (t .carried) (pending b (t .months)) w (suc k) l (acc .few-rows) q)
+      moved (no q) = rw (ltb-no (suc k) 11 (omega arith)) (sym (pending-ends b (t .months) w (suc (suc k)) (omega arith)))
+
+  pub tally-next : (c : Call) → boardAfter b (c .runoff) (tallyBoard b t) ≡ tallyBoard b (accept b t c)
+  unfolding boardAfter accept
+  tally-next c =
+      let h : MonthRun = nextRun b t c in
+      ap (λ (x : MonthRun). boardOf b (x .carried) (dueAfter b x (tallyBoard b t))) (tally-run (c .runoff) (c .report))
+      ∙ board-same b (h .carried) (dueAfter b h (tallyBoard b t)) (pending b (t .months ++ (h ∷ []))) (λ w k l m. due-on h w k l m)
+      ∙ written b (record { carried = h .carried; months = t .months ++ (h ∷ []) })
+
+-- ---- the fresh board is the tally's
+
+pub tally-fresh : (b : Basin) → freshBoard b ≡ tallyBoard b (fresh b)
+unfolding freshBoard tallyBoard fresh pending pendingFrom
+tally-fresh b = refl

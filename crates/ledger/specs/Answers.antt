@@ -1,0 +1,27 @@
+-- What the calls return, in the words of the tally.
+use mathlib.Core.List.{List}
+use mathlib.Core.Option.{Option, none, some}
+use Prim.Native.Nat.{ℕ, _+_, _*_}
+use Rattle.rules.specs.Tally.{Answer}
+use Rattle.ledger.specs.declared.answer.Answer.{Answer as Told}
+use Rattle.ledger.specs.declared.answer.Stock.{Stock as StockTold}
+use Rattle.ledger.specs.Calls.{accepted, Fresh, Stock}
+
+-- an answer as the call gives it
+abbrev pub answerOf : Told → Answer
+answerOf a = record { number = a .number; place = a .place }
+
+-- the answer that a refusal settles: number 0 where there is none
+unfoldable pub settled : Option Answer → Answer
+settled none = accepted
+settled (some a) = a
+
+-- number and place in one word, the number in the upper half
+abbrev pub answerWord : Answer → ℕ
+answerWord a = a .number * 4294967296 + a .place
+
+abbrev pub freshTold : Told → List ℕ → Fresh
+freshTold a board = record { answer = answerOf a; board = board }
+
+abbrev pub stockTold : StockTold → Stock
+stockTold s = record { number = s .number; place = s .place; storage = s .storage; due = s .due }

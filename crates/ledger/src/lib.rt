@@ -1,0 +1,6 @@
+// The calls on lent numbers.
+pub mod answer;
+pub mod export;
+pub mod fresh;
+pub mod possible;
+pub mod stock;

@@ -1,0 +1,3 @@
+pub mod Table
+pub mod Levels
+pub mod Walks

@@ -1,0 +1,70 @@
+-- The arrays of a month as the rules' levels, and what each walk along a path asks for.
+use mathlib.Core.Bool.{Bool, true, false, cond}
+use mathlib.Core.List.{List, [], _∷_}
+use mathlib.Core.Option.{Option, none, some}
+use mathlib.Core.Path.{_≡_}
+use Prim.Native.Nat.{ℕ, _+_, _≤_, _<_}
+use lib.Dec.{ltb}
+use lib.ListN.{length, getD}
+use lib.IntN.{pos}
+use Rattle.general.specs.Tables.{tab}
+use Rattle.general.specs.Tests.{has}
+use Rattle.rules.specs.River.{Level}
+use Rattle.river.specs.declared.Seen.{Seen}
+use Rattle.river.specs.declared.Seen.the-variants.{Called, Low}
+use Rattle.river.specs.Table.{pathBy, Downhill}
+
+-- ---- flow f and available flow a at each of n rows
+
+abbrev pub level : ℕ → ℕ → Level
+level x y = record { flow = pos x; available = pos y }
+
+abbrev pub rowLevel : List ℕ → List ℕ → ℕ → Level
+rowLevel f a w = level (getD f w 0) (getD a w 0)
+
+unfoldable pub levelsOf : ℕ → List ℕ → List ℕ → List Level
+levelsOf n f a = tab n (rowLevel f a)
+
+-- ---- what a look down a path sees
+
+-- the first row of a short right; where there is none, the first row with the lowest number, low being the lowest so far
+unfoldable pub seenOn : List Bool → List ℕ → ℕ → List ℕ → Seen
+seenOn short a low [] = Low low
+seenOn short a low (q ∷ p) = cond (getD short q false) (Called q) (seenOn short a (cond (ltb (getD a q 0) (getD a low 0)) q low) p)
+
+-- ---- what a walk asks for
+
+-- a row of the table, and arrays with a place for each row
+pub record OnRow (t : List ℕ) (row size : ℕ) : Type 0 where
+  pub downhill : Downhill t
+  pub on : row < length t
+  pub places : length t ≤ size
+
+-- at each row of p there is at least d
+pub record Enough (d : ℕ) (p l : List ℕ) : Type 0 where
+  pub at-least : (k : ℕ) → has k p ≡ true → d ≤ getD l k 0
+
+-- at each row of p there is room for d more
+pub record Room (d : ℕ) (p l : List ℕ) : Type 0 where
+  pub fits : (k : ℕ) → has k p ≡ true → getD l k 0 + d < 18446744073709551616
+
+pub record CanDivert (t : List ℕ) (row d : ℕ) (f a : List ℕ) : Type 0 where
+  pub row-ok : OnRow t row (length f)
+  pub places : length t ≤ length a
+  pub flows : Enough d (pathBy t row) f
+  pub availables : Enough d (pathBy t row) a
+
+pub record CanReturn (t : List ℕ) (row d : ℕ) (f a : List ℕ) : Type 0 where
+  pub row-ok : OnRow t row (length f)
+  pub places : length t ≤ length a
+  pub flows : Room d (pathBy t row) f
+  pub availables : Room d (pathBy t row) a
+
+pub record CanRelease (t : List ℕ) (row d : ℕ) (f : List ℕ) : Type 0 where
+  pub row-ok : OnRow t row (length f)
+  pub flows : Room d (pathBy t row) f
+
+pub record CanLook (t : List ℕ) (row low : ℕ) (short : List Bool) (a : List ℕ) : Type 0 where
+  pub row-ok : OnRow t row (length a)
+  pub marks : length t ≤ length short
+  pub low-on : low < length t

@@ -1,0 +1,228 @@
+-- What a setting says of the parts of a file. Assumes nothing.
+use mathlib.Core.Bool.{Bool, true, false}
+use mathlib.Core.List.{List, [], _∷_, map}
+use mathlib.Core.Logic.{_≢_, _⊎_, inl, inr}
+use mathlib.Core.Path.{_≡_, refl, sym, ap, _∙_, subst}
+use Prim.Native.Nat.{ℕ, zero, suc, _+_, _-_, _*_, _/_, _≤_, _<_}
+use native.Mathlib.Omega.{arith}
+use lib.Dec.{eqb}
+use lib.ListN.{length, getD, length-map}
+use Rattle.general.specs.Sums.{sumOver, sum, sumTo}
+use Rattle.general.specs.Tables.{tab, All}
+use Rattle.general.proofs.Lists.{all-at-place}
+use Rattle.general.proofs.Sums.{sumTo-same, sumTo-list, sum-map}
+use Rattle.general.proofs.Tables.{tab-length, tab-at, sum-tab}
+use Rattle.general.proofs.Tests.{eq-of, by-eqb}
+use Rattle.rules.specs.Basin.{Station, Reservoir, Point, Kind, direct, project, instream, storage, Right, Basin, noReservoir, noRight, rows, reservoirAt, rightAt, reservoirOf, patternOf}
+use Rattle.rules.specs.Path.{path}
+use Rattle.rules.specs.Returns.{percents}
+use Rattle.rules.specs.Accepted.{GoodReservoir, GoodRight, ReservoirOk, ReturnsOk, Unreturned, Returned, Accepted}
+use Rattle.basin.specs.declared.rights.RightRecord.{RightRecord}
+use Rattle.basin.specs.Records as records
+use Rattle.basin.specs.Records.{rowsOf, stationsOf, reservoirCount, reservoirRecord, reservoirsOf, rightCount, rightRecord, amountAt, returnRow, returnPercent, kindOf, rightOf, rightsOf}
+use Rattle.basin.proofs.Rows.{rows-are}
+use Rattle.river.specs.Table.{tableOf, pathBy, Downhill}
+use Rattle.river.proofs.Table.{table-length, table-downhill, table-path}
+use Rattle.turns.specs.Dues.{mostAmount, Whole}
+use Rattle.turns.specs.Returning.{pointsUpTo, PointsOk}
+use Rattle.turns.specs.State.{Setting}
+use Rattle.turns.specs.Stages.{capacityIn, homeRow}
+
+module _ (b : Basin) (st t rs : List ℕ) (pa : List (List ℕ)) (ri : List ℕ) (w : Setting b st t rs pa ri) where
+  -- ---- counts
+
+  pub rows-t : length t ≡ rows b
+  rows-t = ap length (w .table) ∙ table-length (b .stations)
+
+  pub rows-st : rowsOf st ≡ length t
+  rows-st = sym (rows-are st) ∙ ap length (sym (w .stations)) ∙ sym rows-t
+
+  pub few : length t ≤ 64
+  few = omega (arith, rows-t, w .accepted .few-rows)
+
+  pub downhill : Downhill t
+  downhill = subst Downhill (sym (w .table)) (table-downhill (b .stations) (omega (arith, w .accepted .few-rows)))
+
+  pub path-is : (r : ℕ) → r < length t → pathBy t r ≡ path (b .stations) r
+  path-is r h = ap (λ (x : List ℕ). pathBy x r) (w .table) ∙ table-path (b .stations) (omega (arith, w .accepted .few-rows)) r (omega (arith, rows-t))
+
+  pub reservoirs-count : length (b .reservoirs) ≡ reservoirCount rs
+  unfolding reservoirsOf
+  reservoirs-count = ap length (w .reservoirs) ∙ tab-length (records.reservoirOf rs) (reservoirCount rs)
+
+  pub rights-count : length (b .rights) ≡ rightCount ri
+  unfolding rightsOf
+  rights-count = ap length (w .rights) ∙ tab-length (rightOf ri) (rightCount ri)
+
+  -- ---- records
+
+  pub right-is : (i : ℕ) → i < rightCount ri → rightAt b i ≡ rightOf ri i
+  unfolding rightsOf
+  right-is i h = ap (λ (l : List Right). getD l i noRight) (w .rights) ∙ tab-at (rightOf ri) (rightCount ri) i noRight h
+
+  pub reservoir-is : (v : ℕ) → v < reservoirCount rs → reservoirAt b v ≡ records.reservoirOf rs v
+  unfolding reservoirsOf
+  reservoir-is v h = ap (λ (l : List Reservoir). getD l v noReservoir) (w .reservoirs) ∙ tab-at (records.reservoirOf rs) (reservoirCount rs) v noReservoir h
+
+  pub capacity-is : (v : ℕ) → v < reservoirCount rs → (reservoirAt b v) .capacity ≡ capacityIn rs v
+  unfolding records.reservoirOf
+  capacity-is v h = ap (λ (x : Reservoir). x .capacity) (reservoir-is v h)
+
+  pub home-is : (v : ℕ) → v < reservoirCount rs → (reservoirAt b v) .row ≡ homeRow rs v
+  unfolding records.reservoirOf
+  home-is v h = ap (λ (x : Reservoir). x .row) (reservoir-is v h)
+
+  pub home-in : (v : ℕ) → v < reservoirCount rs → homeRow rs v < length t
+  home-in v h =
+      let g : GoodReservoir b (reservoirAt b v) = all-at-place (GoodReservoir b) (b .reservoirs) noReservoir (w .accepted .reservoirs-good) v (omega (arith, reservoirs-count)) in
+      omega (arith, g .row-in, home-is v h, rows-t)
+
+  module _ (i : ℕ) (hi : i < rightCount ri) where
+    pub right-good : GoodRight b (rightOf ri i)
+    right-good = subst (GoodRight b) (right-is i hi) (all-at-place (GoodRight b) (b .rights) noRight (w .accepted .rights-good) i (omega (arith, rights-count)))
+
+    pub place-most : i < 256
+    place-most = omega (arith, rights-count, w .accepted .few-rights)
+
+    -- fields of the right, as its record has them
+    pub kind-is : (rightOf ri i) .kind ≡ kindOf ((rightRecord ri i) .kind)
+    unfolding rightOf
+    kind-is = refl
+
+    pub row-is : (rightOf ri i) .row ≡ (rightRecord ri i) .row
+    unfolding rightOf
+    row-is = refl
+
+    pub reservoir-of : (rightOf ri i) .reservoir ≡ (rightRecord ri i) .reservoir
+    unfolding rightOf
+    reservoir-of = refl
+
+    pub limit-is : (rightOf ri i) .limit ≡ (rightRecord ri i) .limit
+    unfolding rightOf
+    limit-is = refl
+
+    pub efficiency-is : (rightOf ri i) .efficiency ≡ (rightRecord ri i) .efficiency
+    unfolding rightOf
+    efficiency-is = refl
+
+    pub pattern-is : (rightOf ri i) .pattern ≡ (rightRecord ri i) .pattern
+    unfolding rightOf
+    pattern-is = refl
+
+    pub row-in : (rightRecord ri i) .row < length t
+    row-in = omega (arith, right-good .row-in, row-is, rows-t)
+
+    -- ---- its return points
+
+    abbrev points : ℕ
+    points = (rightRecord ri i) .points
+
+    abbrev pub pointAt : ℕ → Point
+    pointAt k = record { row = returnRow ri i k; percent = returnPercent ri i k }
+
+    pub points-are : (rightOf ri i) .points ≡ tab points pointAt
+    unfolding rightOf
+    points-are = refl
+
+    pub points-count : length ((rightOf ri i) .points) ≡ points
+    points-count = ap length points-are ∙ tab-length pointAt points
+
+    no-points : (rightOf ri i) .points ≡ [] → PointsOk t pa ri i points ((rightRecord ri i) .pattern)
+    unfolding sumTo
+    no-points e =
+        let z : points ≡ 0 = sym points-count ∙ ap length e in
+        record {
+          right-in = hi;
+          few = omega arith;
+          rows = λ k h. absurd (omega arith);
+          percents = rw z (omega arith);
+          known = λ h. absurd (omega arith);
+          whole = λ h. absurd (omega arith);
+        }
+
+    pub percent-at : (k : ℕ) → k < points → getD (percents (rightOf ri i)) k 0 ≡ returnPercent ri i k
+    percent-at k h = ap (λ (l : List Point). getD (map (λ (q : Point). q .percent) l) k 0) points-are ∙ at points h
+      where
+        at : (n : ℕ) → k < n → getD (map (λ (q : Point). q .percent) (tab n pointAt)) k 0 ≡ returnPercent ri i k
+        at n l = Rattle.general.proofs.Lists.getD-map-in (λ (q : Point). q .percent) (tab n pointAt) k 0 (pointAt k) (rw (tab-length pointAt n) l) ∙ ap (λ (q : Point). q .percent) (tab-at pointAt n k (pointAt k) l)
+
+    pub percents-count : length (percents (rightOf ri i)) ≡ points
+    percents-count = length-map ((rightOf ri i) .points) (λ (q : Point). q .percent) ∙ points-count
+
+    percent-sum : sum (percents (rightOf ri i)) ≡ pointsUpTo ri i points
+    percent-sum =
+        sym (sumTo-list (percents (rightOf ri i))) ∙ ap (λ (k : ℕ). sumTo k (λ j. getD (percents (rightOf ri i)) j 0)) percents-count ∙ sumTo-same points _ _ (λ k h. percent-at k h)
+
+    some-points : Returned b (rightOf ri i) → PointsOk t pa ri i points ((rightRecord ri i) .pattern)
+    some-points p =
+        let same : getD (b .patterns) ((rightRecord ri i) .pattern) [] ≡ getD pa ((rightRecord ri i) .pattern) [] = w .patterns _ (omega (arith, p .pattern-in, pattern-is)) in
+        let pat : patternOf b (rightOf ri i) ≡ getD pa ((rightRecord ri i) .pattern) [] = ap (λ (k : ℕ). getD (b .patterns) k []) pattern-is ∙ same in
+        record {
+          right-in = hi;
+          few = omega (arith, p .few-points, points-count);
+          rows = λ k h. row-at k h (all-at-place (λ (q : Point). q .row < rows b) ((rightOf ri i) .points) (pointAt k) (p .rows-in) k (omega (arith, points-count)));
+          percents = omega (arith, percent-sum, p .whole);
+          known = λ h. omega (arith, p .pattern-in, pattern-is, w .accepted .few-patterns);
+          whole = λ h. record { twelve = sym (ap length pat) ∙ p .pattern-length; hundred = sym (ap sum pat) ∙ p .pattern-whole };
+        }
+      where
+        row-at : (k : ℕ) → k < points → (getD ((rightOf ri i) .points) k (pointAt k)) .row < rows b → returnRow ri i k < length t
+        row-at k h l =
+            let e : getD ((rightOf ri i) .points) k (pointAt k) ≡ pointAt k = ap (λ (x : List Point). getD x k (pointAt k)) points-are ∙ tab-at pointAt points k (pointAt k) h in
+            omega (arith, l, ap (λ (q : Point). q .row) e, rows-t)
+
+    some-or-none : Unreturned (rightOf ri i) ⊎ Returned b (rightOf ri i) → PointsOk t pa ri i points ((rightRecord ri i) .pattern)
+    some-or-none (inl u) = no-points (u .no-points)
+    some-or-none (inr p) = some-points p
+
+    by-returns : (k : Kind) → ReturnsOk k b (rightOf ri i) → PointsOk t pa ri i points ((rightRecord ri i) .pattern)
+    by-returns direct o = some-or-none o
+    by-returns project o = some-or-none o
+    by-returns instream o = no-points o
+    by-returns storage o = no-points o
+
+    pub points-ok : PointsOk t pa ri i points ((rightRecord ri i) .pattern)
+    points-ok = by-returns ((rightOf ri i) .kind) (right-good .returns-ok)
+
+    -- the pattern that its points share is the rules'
+    pub pattern-same : 0 < points → patternOf b (rightOf ri i) ≡ getD pa ((rightRecord ri i) .pattern) []
+    pattern-same h = go ((rightOf ri i) .kind) (right-good .returns-ok)
+      where
+        none : (rightOf ri i) .points ≡ [] → patternOf b (rightOf ri i) ≡ getD pa ((rightRecord ri i) .pattern) []
+        none e = let z : points ≡ 0 = sym points-count ∙ ap length e in absurd (omega arith)
+
+        some : Unreturned (rightOf ri i) ⊎ Returned b (rightOf ri i) → patternOf b (rightOf ri i) ≡ getD pa ((rightRecord ri i) .pattern) []
+        some (inl u) = none (u .no-points)
+        some (inr p) = ap (λ (k : ℕ). getD (b .patterns) k []) pattern-is ∙ w .patterns _ (omega (arith, p .pattern-in, pattern-is))
+
+        go : (k : Kind) → ReturnsOk k b (rightOf ri i) → patternOf b (rightOf ri i) ≡ getD pa ((rightRecord ri i) .pattern) []
+        go direct o = some o
+        go project o = some o
+        go instream o = none o
+        go storage o = none o
+
+    -- ---- its efficiency, of kinds 1 and 2
+
+    efficient-of : Unreturned (rightOf ri i) ⊎ Returned b (rightOf ri i) → (rightRecord ri i) .efficiency ≤ 100
+    efficient-of (inl u) = omega (arith, u .all-used, efficiency-is)
+    efficient-of (inr p) = omega (arith, p .efficiency-most, efficiency-is)
+
+    -- ---- its reservoir
+
+    pub project-behind : (rightRecord ri i) .kind ≡ 2 → (rightRecord ri i) .reservoir < reservoirCount rs
+    project-behind e = go ((rightOf ri i) .kind) (kind-is ∙ Rattle.turns.proofs.RightKinds.kind-project _ e) (right-good .reservoir-ok)
+      where
+        go : (k : Kind) → k ≡ project → ReservoirOk k b (rightOf ri i) → (rightRecord ri i) .reservoir < reservoirCount rs
+        go direct f o = let z : _≡_ {A = ℕ} 0 1 = cc in absurd (omega arith)
+        go project f o = omega (arith, o .0, reservoirs-count, reservoir-of)
+        go instream f o = let z : _≡_ {A = ℕ} 0 1 = cc in absurd (omega arith)
+        go storage f o = let z : _≡_ {A = ℕ} 0 1 = cc in absurd (omega arith)
+
+    pub storage-behind : (rightOf ri i) .kind ≡ storage → (rightRecord ri i) .reservoir < reservoirCount rs
+    storage-behind e = go ((rightOf ri i) .kind) e (right-good .reservoir-ok)
+      where
+        go : (k : Kind) → k ≡ storage → ReservoirOk k b (rightOf ri i) → (rightRecord ri i) .reservoir < reservoirCount rs
+        go direct f o = let z : _≡_ {A = ℕ} 0 1 = cc in absurd (omega arith)
+        go project f o = let z : _≡_ {A = ℕ} 0 1 = cc in absurd (omega arith)
+        go instream f o = let z : _≡_ {A = ℕ} 0 1 = cc in absurd (omega arith)
+        go storage f o = omega (arith, o .0, reservoirs-count, reservoir-of)

@@ -1,0 +1,14 @@
+pub mod Shares
+pub mod Points
+pub mod Looks
+pub mod RightKinds
+pub mod Places
+pub mod Facts
+pub mod Ending
+pub mod Demands
+pub mod StageStates
+pub mod Serving
+pub mod Readying
+pub mod Assembling
+pub mod Naming
+pub mod Lining

@@ -1,0 +1,35 @@
+-- The end of a turn in the arrays' words: the returns, the mark of a short row, the grant.
+use mathlib.Core.Bool.{Bool, true, false, cond}
+use mathlib.Core.List.{List, []}
+use mathlib.Core.Path.{_≡_}
+use Prim.Native.Nat.{ℕ, _+_, _-_, _*_, _/_, _≤_, _<_}
+use lib.Dec.{ltb, eqb}
+use lib.ListN.{length, getD, set}
+use Rattle.basin.specs.declared.rights.RightRecord.{RightRecord}
+use Rattle.turns.specs.declared.grants.Grant.{Grant}
+use Rattle.turns.specs.declared.grants.Reason.{Reason}
+use Rattle.turns.specs.declared.grants.Reason.the-variants.{Met, StorageOut}
+use Rattle.turns.specs.Dues.{mostAmount, roomy}
+use Rattle.turns.specs.Returning.{RiverOk, BoardOk, PointsOk, Gave}
+
+-- what of a diversion d returns, at efficiency e
+abbrev pub restOf : ℕ → ℕ → ℕ
+restOf d e = d - d * e / 100
+
+pub record CanFinish (t : List ℕ) (pa : List (List ℕ)) (ri : List ℕ) (i : ℕ) (r : RightRecord) (part stored : ℕ) (f a : List ℕ) (sh : List Bool) (bd : List ℕ) : Type 0 where
+  pub small : part + stored ≤ mostAmount
+  pub efficient : r .efficiency ≤ 100
+  pub on : r .row < length t
+  pub points-ok : PointsOk t pa ri i (r .points) (r .pattern)
+  pub river : RiverOk t f a roomy
+  pub board : BoardOk bd roomy
+  pub marks : length t ≤ length sh
+
+pub record Finished (t : List ℕ) (pa : List (List ℕ)) (ri : List ℕ) (i : ℕ) (r : RightRecord) (demand part stored : ℕ) (why : Reason) (f a : List ℕ) (sh : List Bool) (bd f′ a′ : List ℕ) (sh′ : List Bool) (bd′ : List ℕ) (g : Grant) : Type 0 where
+  pub gave : Gave t (getD pa (r .pattern) []) ri i (r .points) (restOf (part + stored) (r .efficiency)) f a bd f′ a′ bd′
+  pub marked : sh′ ≡ cond (ltb (part + stored) demand) (set sh (r .row) true) sh
+  pub grant : g ≡ record { «from_river» = part; «from_storage» = stored; reason = cond (ltb (part + stored) demand) why Met }
+
+-- a project right is short of storage, whatever the river was short of
+abbrev pub shortReason : ℕ → Reason → Reason
+shortReason kind why = cond (eqb kind 2) StorageOut why

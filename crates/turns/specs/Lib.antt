@@ -1,0 +1,7 @@
+pub mod Dues
+pub mod Returning
+pub mod Grants
+pub mod State
+pub mod Stages
+pub mod Finish
+pub mod Lines

@@ -1,0 +1,143 @@
+// All rights of a month in list order, each with its line in the report.
+ghost use mathlib.Core.Path.{_≡_};
+ghost use Prim.Native.Nat.{_+_, _*_, _≤_, _<_};
+ghost use lib.ListN.{length};
+ghost use Rattle.rules.specs.Basin.{Basin};
+ghost use Rattle.basin.specs.Records.{rowsOf, reservoirCount, rightCount};
+ghost use Rattle.turns.specs.Lines.{homeNumber, CanName, lineOf, shortOne, CanLine, LineServed, CanServe, Served};
+ghost use Rattle.turns.specs.Stages.{homeRow};
+ghost use Rattle.turns.specs.State.{whyOf, namedBy, Setting};
+use crate::grants::Grant;
+use crate::grants::Reason;
+use crate::grants::station_number;
+use crate::numbers::wide32;
+use crate::serve::serve_right;
+use basin::bytes::index;
+use basin::reservoirs::reservoir_at;
+use basin::rights::right_at;
+
+// 01's number for a reason.
+fn why(reason: Reason) -> u64
+    ensures { λ r. ⌜ r ≡ whyOf reason ⌝ }
+{
+    match reason {
+        Reason::Met => 0,
+        Reason::Called(_) => 1,
+        Reason::RiverLow(_) => 2,
+        Reason::StorageOut => 3,
+    }
+}
+
+// The station of reservoir v.
+fn home_number(stations: &[u8], reservoirs: &[u8], v: usize) -> u64
+    requires { ⌜ (v < reservoirCount (now reservoirs)) × (homeRow (now reservoirs) v < rowsOf (now stations)) ⌝ }
+    ensures { λ r. ⌜ r ≡ homeNumber (now (stations .entry)) (now (reservoirs .entry)) v ⌝ }
+{
+    let lake = reservoir_at(reservoirs, v);
+    wide32(station_number(stations, index(lake.row)))
+}
+
+// The station that a reason names; that of the right's reservoir v where its storage gave out.
+fn name(stations: &[u8], reservoirs: &[u8], v: usize, reason: Reason) -> u64
+    requires { ⌜ CanName (now stations) (now reservoirs) v reason ⌝ }
+    ensures { λ r. ⌜ r ≡ namedBy (homeNumber (now (stations .entry)) (now (reservoirs .entry)) v) reason ⌝ }
+{
+    match reason {
+        Reason::Met => 0,
+        Reason::Called(s) => wide32(s),
+        Reason::RiverLow(s) => wide32(s),
+        Reason::StorageOut => home_number(stations, reservoirs, v),
+    }
+}
+
+// The line of right i. Answers 1 for a right that is short.
+fn put_line(report: &mut [u64], i: usize, grant: Grant, station: u64) -> usize
+    requires { ⌜ (i < 256) × (4 * i + 4 ≤ length (now report)) ⌝ }
+    ensures { λ c. ⌜ (c ≡ shortOne grant) × (now (report .exit) ≡ lineOf (now (report .entry)) i grant station) ⌝ }
+{
+    let told = grant.reason;
+    let reason = why(told);
+    report[4 * i] = grant.from_river;
+    report[4 * i + 1] = grant.from_storage;
+    report[4 * i + 2] = reason;
+    report[4 * i + 3] = station;
+    if reason == 0 {
+        return 0;
+    }
+    1
+}
+
+// The turn of right i with its line in the report. Answers 1 for a right that is short.
+fn serve_line(
+    stations: &[u8],
+    below: &[u8],
+    reservoirs: &[u8],
+    patterns: [[u8; 12]; 16],
+    rights: &[u8],
+    i: usize,
+    m: usize,
+    flow: &mut [u64],
+    available: &mut [u64],
+    short: &mut [bool],
+    board: &mut [u64],
+    report: &mut [u64],
+) -> usize
+    requires { ⌜ CanLine (now stations) (now below) (now reservoirs) patterns (now rights) i m (now flow) (now available) (now short) (now board) (now report) ⌝ }
+    ensures { λ c. ⌜ ((b : Basin) → Setting b (now (stations .entry)) (now (below .entry)) (now (reservoirs .entry)) patterns (now (rights .entry)) → LineServed b (now (rights .entry)) i m (now (flow .entry)) (now (available .entry)) (now (short .entry)) (now (board .entry)) (now (report .entry)) (now (flow .exit)) (now (available .exit)) (now (short .exit)) (now (board .exit)) (now (report .exit)) c) ⌝ }
+{
+    let right = right_at(rights, i);
+    let grant = serve_right(
+        stations,
+        below,
+        reservoirs,
+        patterns,
+        rights,
+        i,
+        m,
+        flow,
+        available,
+        short,
+        board,
+    );
+    let reason = grant.reason;
+    let station = name(stations, reservoirs, index(right.reservoir), reason);
+    put_line(report, i, grant, station)
+}
+
+// All rights in list order. Answers how many are short.
+pub fn serve_all(
+    stations: &[u8],
+    below: &[u8],
+    reservoirs: &[u8],
+    patterns: [[u8; 12]; 16],
+    rights: &[u8],
+    m: usize,
+    flow: &mut [u64],
+    available: &mut [u64],
+    short: &mut [bool],
+    board: &mut [u64],
+    report: &mut [u64],
+) -> usize
+    requires { ⌜ CanServe (now stations) (now below) (now reservoirs) patterns (now rights) m (now flow) (now available) (now short) (now board) (now report) ⌝ }
+    ensures { λ c. ⌜ ((b : Basin) → Setting b (now (stations .entry)) (now (below .entry)) (now (reservoirs .entry)) patterns (now (rights .entry)) → Served b m (now (flow .entry)) (now (available .entry)) (now (short .entry)) (now (board .entry)) (now (report .entry)) (now (flow .exit)) (now (available .exit)) (now (short .exit)) (now (board .exit)) (now (report .exit)) c) ⌝ }
+{
+    let n = rights.len() / 76;
+    let mut shorts = 0;
+    for i in 0..n {
+        shorts += serve_line(
+            stations,
+            below,
+            reservoirs,
+            patterns,
+            rights,
+            i,
+            m,
+            flow,
+            available,
+            short,
+            board,
+            report,
+        );
+    }
+    shorts
+}

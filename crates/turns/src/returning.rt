@@ -1,0 +1,39 @@
+// The returns of a diversion.
+ghost use mathlib.Core.List.{[]};
+ghost use lib.ListN.{getD};
+ghost use Rattle.turns.specs.Returning.{CanGive, Gave};
+use crate::numbers::wide8;
+use crate::split::split;
+use basin::bytes::index;
+use basin::rights::return_percent;
+use basin::rights::return_row;
+use river::put_back;
+
+// What returns of `rest` over the points of right i: the share of this month goes back to the river along the point's path, later shares are added to the dues.
+pub fn give_returns(
+    below: &[u8],
+    patterns: [[u8; 12]; 16],
+    rights: &[u8],
+    i: usize,
+    points: usize,
+    which: usize,
+    rest: u64,
+    flow: &mut [u64],
+    available: &mut [u64],
+    board: &mut [u64],
+)
+    requires { ⌜ CanGive (now below) patterns (now rights) i points which rest (now flow) (now available) (now board) ⌝ }
+    ensures { λ _. ⌜ Gave (now (below .entry)) (getD patterns which []) (now (rights .entry)) i points rest (now (flow .entry)) (now (available .entry)) (now (board .entry)) (now (flow .exit)) (now (available .exit)) (now (board .exit)) ⌝ }
+{
+    let mut c: u64 = 0;
+    let mut before: u64 = 0;
+    for k in 0..points {
+        let p = wide8(return_percent(rights, i, k));
+        let next = rest * (c + p) / 100;
+        let row = index(return_row(rights, i, k));
+        let at_once = split(patterns, which, next - before, row, board);
+        put_back(below, flow, available, row, at_once);
+        before = next;
+        c += p;
+    }
+}
