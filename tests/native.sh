@@ -1,12 +1,17 @@
 #!/usr/bin/env bash
-# The static library as its callers see it: the C example on the files of rivercheck, then the comparison with the
-# plain Rust check, then the two timed in one run.
+# The static libraries as their callers see them: the C examples, then the comparison with the plain Rust engine, then
+# the two checks timed in one run.
 set -euo pipefail
 cd "$(dirname "$0")/.."
 
 rt staticlib basin
-library=target/staticlib/libbasin.a
-gcc -O2 -std=c11 -Wall -Wextra -Werror -Iinclude examples/check.c "$library" -o target/check_c
+rt staticlib ledger
+build() {
+    gcc -O2 -std=c11 -Wall -Wextra -Werror -Iinclude "examples/$1.c" target/staticlib/libbasin.a target/staticlib/libledger.a -o "target/$1_c"
+}
+build check
+build stock
+target/stock_c samples/october.basin.bin | diff - examples/stock.expected
 test "$(target/check_c)" = "no bytes refused 1 0"
 names=crates/rivercheck/args
 (cd crates/rivercheck/data && xargs ../../../target/check_c <../args) | diff - crates/rivercheck/stdout
@@ -16,6 +21,5 @@ if command -v valgrind >/dev/null; then
     echo "C under valgrind: no read outside a file"
 fi
 
-export RIVER_LIB_NAME=basin
 cargo test --release --offline --quiet --manifest-path tests/Cargo.toml --features native --test native -- --nocapture
 cargo run --release --offline --quiet --manifest-path tests/Cargo.toml --features native --bin bench_check

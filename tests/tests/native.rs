@@ -1,8 +1,10 @@
-//! The static library's check against the plain one: number and place, over
-//! valid files, every damage, and random damage. Feature `native`.
+//! The static libraries against the plain engine, over valid files, every
+//! damage and random damage: number and place of the check; answer and every
+//! number of the board for fresh; all four numbers of stock. Feature `native`.
 
 use river_tests::damage::*;
-use river_tests::engine::check;
+use river_tests::engine::board::BOARD;
+use river_tests::engine::{check, fresh, stock};
 use river_tests::ffi;
 use river_tests::generate::{any_river, largest, Rng};
 
@@ -84,4 +86,45 @@ fn random_damages() {
     println!("random damages by number: {:?}", compared.0);
     assert!(compared.0.iter().all(|&times| times > 200), "{:?}", compared.0);
     assert!(compared.0[1..].iter().sum::<usize>() >= 5000);
+}
+
+/// Fresh and stock on a file and a board, by both engines.
+fn compare_board(file: &[u8], board: &[u64], what: &str) -> u64 {
+    let expected = stock(file, board);
+    assert_eq!(ffi::stock(file, board), expected, "stock, {what}");
+    let (mut plain, mut native) = (board.to_vec(), board.to_vec());
+    let answer = fresh(file, &mut plain);
+    assert_eq!(ffi::fresh(file, &mut native), answer, "fresh, {what}");
+    assert_eq!(native, plain, "fresh board, {what}");
+    expected[0]
+}
+
+#[test]
+fn boards_possible_and_impossible() {
+    let rng = &mut Rng::new(24);
+    let mut by_number = [0; 8];
+    for seed in 0..300 {
+        let river = any_river(&mut Rng::new(seed));
+        let board = river.possible_board(rng);
+        by_number[compare_board(&river.file, &board, "possible") as usize] += 1;
+        for &(name, edit) in POSSIBLE {
+            let mut board = board.clone();
+            edit(&river.basin, &mut board);
+            by_number[compare_board(&river.file, &board, name) as usize] += 1;
+        }
+        for &(name, edit) in IMPOSSIBLE {
+            let mut board = board.clone();
+            if impossible_board(edit, &river.basin, &mut board, rng).is_some() {
+                by_number[compare_board(&river.file, &board, name) as usize] += 1;
+            }
+        }
+        for length in [0, 1, BOARD - 1, BOARD + 1] {
+            let board = vec![5; length];
+            by_number[compare_board(&river.file, &board, "length") as usize] += 1;
+        }
+        let damaged = random_damage(rng, &river.file);
+        by_number[compare_board(&damaged, &board, "damaged") as usize] += 1;
+    }
+    println!("boards by number: {by_number:?}");
+    assert!([0, 6, 7].iter().all(|&number: &usize| by_number[number] > 500), "{by_number:?}");
 }

@@ -122,8 +122,7 @@ module _ (f : List ℕ) (ok : checkOf f ≡ AcceptedFile) (acc : Accepted (basin
   settled t p e none names q h =
       let b : Basin = basinOf f in
       let c : Call = callOf e in
-      let run : runOf b (e .runoff) (tallyBoard b t) ≡ nextRun b t c = tally-run b acc t p (e .runoff) (length (e .report)) in
-      (
+      let run : runOf b (e .runoff) (tallyBoard b t) ≡ nextRun b t c = tally-run b acc t p (e .runoff) (length (e .report)) in (
         ap (λ (o : Outcome). o .answer) q ∙ ap (λ (r : MonthRun). record { number = 0; place = shortCount (r .turns) }) run,
         tells b acc t p c names (e .report) ((e .outcome) .report)
             (ap (λ (o : Outcome). o .report) q ∙ ap (λ (r : MonthRun). reportOf b r names (e .report)) run)

@@ -1,9 +1,9 @@
 -- The basin of a file's four bodies, and what a possible board holds there, body by body.
+use mathlib.Core.Path.{_≡_}
 use mathlib.Core.Bool.{Bool, cond}
 use mathlib.Core.List.{List, map}
 use Prim.Native.Nat.{ℕ, suc, _-_, _≤_, _<_}
 use lib.Dec.{leb, ltb, eqb}
-use mathlib.Core.Path.{_≡_}
 use lib.ListN.{length, getD}
 use Rattle.general.specs.Sums.{only}
 use Rattle.general.specs.Tables.{tab}

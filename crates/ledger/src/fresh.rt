@@ -1,8 +1,7 @@
 // The fresh board of a basin.
 ghost use mathlib.Core.Path.{_≡_};
-ghost use Prim.Native.Nat.{_≤_, _<_};
+ghost use Prim.Native.Nat.{_<_};
 ghost use lib.ListN.{length};
-ghost use Rattle.basin.specs.Records.{reservoirCount};
 ghost use Rattle.ledger.specs.Calls.{freshOf};
 ghost use Rattle.ledger.specs.Bodies.{startAt, startBoard};
 ghost use Rattle.ledger.specs.Answers.{freshTold};

@@ -4,7 +4,6 @@ ghost use mathlib.Core.Path.{_≡_};
 ghost use mathlib.Core.List.{List};
 ghost use Prim.Native.Nat.{ℕ, _≤_, _<_, _^_};
 ghost use lib.ListN.{length};
-ghost use Rattle.basin.specs.Records.{reservoirCount, rightCount};
 ghost use Rattle.ledger.specs.Board.{possible};
 ghost use Rattle.ledger.specs.Bodies.{bodies, storageMost, takenMost, dueMost, storagesOk, takenOk, rowOk, duesOk, Sized};
 use basin::bytes::le32;
