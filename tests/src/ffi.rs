@@ -47,7 +47,6 @@ pub fn fresh(file: &[u8], board: &mut [u64]) -> (u32, u32) {
 
 /// Number, place and the two sums of the checked engine's stock.
 pub fn stock(file: &[u8], board: &[u64]) -> [u64; 4] {
-    let sums =
-        unsafe { c::river_stock(file.as_ptr(), file.len(), board.as_ptr(), board.len()) };
+    let sums = unsafe { c::river_stock(file.as_ptr(), file.len(), board.as_ptr(), board.len()) };
     [sums.number as u64, sums.place as u64, sums.storage, sums.due]
 }
