@@ -12,3 +12,4 @@ pub mod Readying
 pub mod Assembling
 pub mod Naming
 pub mod Lining
+pub mod Openings

@@ -5,3 +5,4 @@ pub mod State
 pub mod Stages
 pub mod Finish
 pub mod Lines
+pub mod Opening

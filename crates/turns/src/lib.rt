@@ -2,6 +2,7 @@
 pub mod grants;
 pub mod lines;
 pub mod numbers;
+pub mod opening;
 pub mod returning;
 pub mod serve;
 pub mod split;

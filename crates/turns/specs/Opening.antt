@@ -1,0 +1,36 @@
+-- The river before the first right, in the arrays' words (01, steps 1 and 2).
+use mathlib.Core.List.{List}
+use mathlib.Core.Path.{_≡_}
+use Prim.Native.Nat.{ℕ, _+_, _*_, _≤_, _<_}
+use lib.ListN.{length, getD}
+use Rattle.general.specs.Sums.{sumTo, only}
+use Rattle.general.specs.Tests.{has}
+use Rattle.river.specs.Table.{pathBy, Downhill}
+
+-- the most that enters at one row: runoff within its limit, and what eleven months can have sent
+abbrev pub mostInflow : ℕ
+mostInflow = 3_000_000_000_000
+
+-- what enters at row j: runoff, and the returns that arrive
+abbrev pub inflow : List ℕ → List ℕ → ℕ → ℕ
+inflow runoff bd j = getD runoff j 0 + getD bd (266 + 11 * j) 0
+
+-- what the first k rows send to row i
+unfoldable pub sentTo : List ℕ → List ℕ → List ℕ → ℕ → ℕ → ℕ
+sentTo t runoff bd k i = sumTo k (λ j. only (has i (pathBy t j)) (inflow runoff bd j))
+
+pub record CanGather (t runoff bd f a : List ℕ) : Type 0 where
+  pub downhill : Downhill t
+  pub few : length t ≤ 64
+  pub sheet : length t ≤ length runoff
+  pub size : length bd ≡ 970
+  pub small : (j : ℕ) → inflow runoff bd j ≤ mostInflow
+  pub places : length t ≤ length f
+  pub places₂ : length t ≤ length a
+  pub empty : (i : ℕ) → getD f i 0 ≡ 0
+  pub empty₂ : (i : ℕ) → getD a i 0 ≡ 0
+
+-- flow and available flow at each row are what the first k rows send there
+pub record Gathered (t runoff bd : List ℕ) (k : ℕ) (f a : List ℕ) : Type 0 where
+  pub flow : (i : ℕ) → i < length t → getD f i 0 ≡ sentTo t runoff bd k i
+  pub available : (i : ℕ) → i < length t → getD a i 0 ≡ sentTo t runoff bd k i
