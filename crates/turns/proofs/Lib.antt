@@ -13,3 +13,4 @@ pub mod Assembling
 pub mod Naming
 pub mod Lining
 pub mod Openings
+pub mod Evaporating

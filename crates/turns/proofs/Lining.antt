@@ -30,7 +30,7 @@ use Rattle.turns.proofs.Facts.{rows-t, rights-count, right-is}
 
 -- ---- lists from a place on
 
-by-place : (m n : ℕ) (P : Type 0) → (m < n → P) → (n ≤ m → P) → P
+pub by-place : (m n : ℕ) (P : Type 0) → (m < n → P) → (n ≤ m → P) → P
 by-place m zero P f g = g (omega arith)
 by-place zero (suc n) P f g = f (omega arith)
 by-place (suc m) (suc n) P f g = by-place m n P (λ h. f (omega (arith, h))) (λ h. g (omega (arith, h)))

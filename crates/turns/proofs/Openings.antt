@@ -1,16 +1,17 @@
 -- The river before the first right: row after row sends its inflow down its path, and what is gathered is the rules' opening.
-use mathlib.Core.Bool.{Bool, true, false}
+use mathlib.Core.Bool.{Bool, true, false, cond}
 use mathlib.Core.List.{List}
 use mathlib.Core.Path.{_≡_, refl, sym, ap, _∙_, subst}
-use Prim.Native.Nat.{ℕ, zero, suc, _+_, _*_, _≤_, _<_}
+use Prim.Native.Nat.{ℕ, zero, suc, _+_, _-_, _*_, _%_, _≤_, _<_}
 use native.Mathlib.Omega.{arith}
+use lib.Dec.{ltb, eqb}
 use lib.ListN.{length, getD}
 use lib.IntN.{ℤ, pos}
 use Rattle.general.specs.Sums.{sumTo, only}
 use Rattle.general.specs.Tables.{tab}
 use Rattle.general.specs.Tests.{has}
 use Rattle.general.proofs.Sums.{sumTo-same}
-use Rattle.general.proofs.Tables.{tab-at, tab-same}
+use Rattle.general.proofs.Tables.{tab-length, tab-at, tab-same}
 use Rattle.rules.specs.Basin.{Basin, rows}
 use Rattle.rules.specs.Path.{path}
 use Rattle.rules.specs.River.{Level, along, returned}
@@ -20,7 +21,7 @@ use Rattle.river.specs.Arrays.{levelsOf, level, rowLevel, CanReturn}
 use Rattle.river.proofs.Levels.{returned-read}
 use Rattle.turns.specs.Returning.{dueIn}
 use Rattle.turns.specs.State.{Setting}
-use Rattle.turns.specs.Opening.{mostInflow, inflow, sentTo, CanGather, Gathered}
+use Rattle.turns.specs.Opening.{mostInflow, inflow, sentTo, CanGather, Gathered, openedAt, openedBoard}
 use Rattle.turns.proofs.Facts.{rows-t, path-is}
 
 sent-none : (t runoff bd : List ℕ) (i : ℕ) → sentTo t runoff bd 0 i ≡ 0
@@ -89,3 +90,20 @@ module _ (b : Basin) (st t rs : List ℕ) (pa : List (List ℕ)) (ri : List ℕ)
       (λ i h.
       let o : i < length t = omega (arith, h, rows-t b st t rs pa ri w) in
       ap (λ (x : ℕ). level x (getD a i 0)) (g .flow i o ∙ sent-gathered i h) ∙ ap (λ (x : ℕ). level (gathered b runoff (tab (rows b) (λ u. dueIn bd u 0)) i) x) (g .available i o ∙ sent-gathered i h))
+
+-- ---- the board as a month opens
+
+pub opened-length : (bd : List ℕ) (october : Bool) → length (openedBoard bd october) ≡ 970
+unfolding openedBoard
+opened-length bd october = tab-length (openedAt bd october) 970
+
+pub opened-place : (bd : List ℕ) (october : Bool) (p : ℕ) → p < 970 → getD (openedBoard bd october) p 0 ≡ openedAt bd october p
+unfolding openedBoard
+opened-place bd october p h = tab-at (openedAt bd october) 970 p 0 h
+
+-- only the places from p on are read
+pub opened-same : (bd l : List ℕ) (october : Bool) (p : ℕ) → ((j : ℕ) → p ≤ j → getD l j 0 ≡ getD bd j 0) → openedAt l october p ≡ openedAt bd october p
+unfolding openedAt
+opened-same bd l october p h =
+    ap (λ (x : ℕ). cond (ltb p 9) x (cond (ltb p 266) (cond october 0 x) (cond (eqb ((p - 266) % 11) 10) 0 (getD l (p + 1) 0)))) (h p (omega arith))
+    ∙ ap (λ (x : ℕ). cond (ltb p 9) (getD bd p 0) (cond (ltb p 266) (cond october 0 (getD bd p 0)) (cond (eqb ((p - 266) % 11) 10) 0 x))) (h (p + 1) (omega arith))

@@ -6,3 +6,4 @@ pub mod Stages
 pub mod Finish
 pub mod Lines
 pub mod Opening
+pub mod Losses

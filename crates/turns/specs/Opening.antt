@@ -1,9 +1,12 @@
 -- The river before the first right, in the arrays' words (01, steps 1 and 2).
+use mathlib.Core.Bool.{Bool, cond}
 use mathlib.Core.List.{List}
 use mathlib.Core.Path.{_≡_}
-use Prim.Native.Nat.{ℕ, _+_, _*_, _≤_, _<_}
+use Prim.Native.Nat.{ℕ, _+_, _-_, _*_, _%_, _≤_, _<_}
+use lib.Dec.{ltb, eqb}
 use lib.ListN.{length, getD}
 use Rattle.general.specs.Sums.{sumTo, only}
+use Rattle.general.specs.Tables.{tab}
 use Rattle.general.specs.Tests.{has}
 use Rattle.river.specs.Table.{pathBy, Downhill}
 
@@ -34,3 +37,15 @@ pub record CanGather (t runoff bd f a : List ℕ) : Type 0 where
 pub record Gathered (t runoff bd : List ℕ) (k : ℕ) (f a : List ℕ) : Type 0 where
   pub flow : (i : ℕ) → i < length t → getD f i 0 ≡ sentTo t runoff bd k i
   pub available : (i : ℕ) → i < length t → getD a i 0 ≡ sentTo t runoff bd k i
+
+-- ---- the board as a month opens
+
+-- Marks and water taken become 0 in October; the dues come one month nearer, and the last of each row is 0.
+unfoldable pub openedAt : List ℕ → Bool → ℕ → ℕ
+openedAt bd october p =
+    cond (ltb p 9) (getD bd p 0)
+    (cond (ltb p 266) (cond october 0 (getD bd p 0))
+    (cond (eqb ((p - 266) % 11) 10) 0 (getD bd (p + 1) 0)))
+
+unfoldable pub openedBoard : List ℕ → Bool → List ℕ
+openedBoard bd october = tab 970 (openedAt bd october)
