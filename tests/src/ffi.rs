@@ -4,7 +4,7 @@ mod c {
     extern "C" {
         /// The refusal number of a file, 0 if it is accepted.
         pub fn river_check(file: *const u8, len: usize) -> u32;
-        /// For tests: number × 2^32 + place.
+        /// Number × 2^32 + place.
         pub fn river_check_place(file: *const u8, len: usize) -> u64;
         /// Number × 2^32 + place.
         pub fn river_fresh(file: *const u8, len: usize, board: *mut u64, board_len: usize) -> u64;
