@@ -16,7 +16,7 @@ use Rattle.ledger.specs.Board.{possible, storageSum, dueSum}
 use Rattle.ledger.specs.Calls.{accepted, verdictRefusal, fileRefusal, orElse, unless, boardFits, freshRefusal, stockRefusal, freshBoard, freshSettled, freshOf, stockSettled, stockOf}
 use Rattle.ledger.specs.Answers.{settled}
 
-abbrev refusing : ℕ → Answer
+abbrev pub refusing : ℕ → Answer
 refusing n = record { number = n; place = 0 }
 
 -- ---- the file
@@ -36,7 +36,7 @@ file-settled f v n p e en ep = (λ z. record { number = en z; place = ep z }) �
 
 -- ---- a number other than 0 is a refusal
 
-settled-some : (o : Option Answer) (a : Answer) → a ≡ settled o → (a .number ≡ 0 → ⊥) → o ≡ some a
+pub settled-some : (o : Option Answer) (a : Answer) → a ≡ settled o → (a .number ≡ 0 → ⊥) → o ≡ some a
 unfolding settled
 settled-some none a e n = absurd (n (ap (λ (x : Answer). x .number) e))
 settled-some (some x) a e n = ap some (sym e)
@@ -75,7 +75,7 @@ module _ (f board : List ℕ) where
   fresh-refused a e n = rw (settled-some (fileRefusal f) a e n)
 
   module _ (acc : checkOf f ≡ Accepted) where
-    no-refusal : fileRefusal f ≡ none
+    pub no-refusal : fileRefusal f ≡ none
     unfolding fileRefusal verdictRefusal
     no-refusal = rw acc
 

@@ -19,7 +19,7 @@ use Rattle.ledger.specs.Board.{monthAt, storageAt, marksAt, takenAt, due
 
 -- ---- the word of marks
 
-bit-none : (i : ℕ) → bit 0 i ≡ false
+pub bit-none : (i : ℕ) → bit 0 i ≡ false
 unfolding bit
 bit-none i = rw (zero-div (2 ^ i))
 

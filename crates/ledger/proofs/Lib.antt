@@ -4,4 +4,8 @@ pub mod Tally
 pub mod Demand3
 pub mod Bodies
 pub mod Answers
+pub mod Opened
+pub mod Closing
+pub mod Reporting
+pub mod Settling
 pub mod Theorems

@@ -42,7 +42,12 @@ rowOk n board w = allTo 11 (λ k. leb (dueAt board w (suc k)) (dueMost n w k))
 unfoldable pub duesOk : ℕ → List ℕ → Bool
 duesOk n board = allTo 64 (rowOk n board)
 
--- ---- what an accepted file and a board of the right length give
+-- ---- what an accepted file gives, and with it a board of the right length
+
+pub record Counted (st rs ri : List ℕ) : Type 0 where
+  pub rows-in : rowsOf st ≤ 64
+  pub reservoirs-in : reservoirCount rs ≤ 8
+  pub rights-in : rightCount ri ≤ 256
 
 pub record Sized (st rs ri board : List ℕ) : Type 0 where
   pub rows-in : rowsOf st ≤ 64

@@ -4,3 +4,4 @@ pub mod Calls
 pub mod Demand3
 pub mod Bodies
 pub mod Answers
+pub mod Steps

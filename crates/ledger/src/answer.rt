@@ -11,6 +11,8 @@ pub const LISTS: u32 = 6;
 
 pub const BOARD: u32 = 7;
 
+pub const RUNOFF: u32 = 8;
+
 pub struct Answer {
     pub number: u32,
     pub place: u32,

@@ -3,4 +3,5 @@ pub mod answer;
 pub mod export;
 pub mod fresh;
 pub mod possible;
+pub mod settle;
 pub mod stock;

@@ -72,7 +72,7 @@ module _ (n : ℕ) (bd : List ℕ) where
 
 -- ---- bits of a word
 
-bit-zero : (w : ℕ) → bit w 0 ≡ eqb (w % 2) 1
+pub bit-zero : (w : ℕ) → bit w 0 ≡ eqb (w % 2) 1
 unfolding bit
 bit-zero w = let e : w / 1 ≡ w = omega arith in rw e
 
