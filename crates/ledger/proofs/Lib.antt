@@ -8,4 +8,5 @@ pub mod Opened
 pub mod Closing
 pub mod Reporting
 pub mod Settling
+pub mod Rows
 pub mod Theorems
