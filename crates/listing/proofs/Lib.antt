@@ -1,0 +1,3 @@
+pub mod Decimals
+pub mod Texts
+pub mod October
