@@ -7,6 +7,7 @@ pub mod Answers
 pub mod Opened
 pub mod Closing
 pub mod Reporting
+pub mod After
 pub mod Settling
 pub mod Rows
 pub mod Theorems

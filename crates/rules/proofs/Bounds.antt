@@ -99,7 +99,7 @@ unfolding turns
 turns-small b m i [] s h = tt
 turns-small b m i (r ∷ rs) s h = (turn-small b m i r s (h .0), turns-small b m (suc i) rs ((turn b m i r s) .after-returns) (h .1))
 
-month-returns-le : (b : Basin) → Accepted b → (c : Carried) (runoff arrived : List ℕ) (w s : ℕ) → returnsAt b ((month b c runoff arrived) .turns) w s ≤ 256 * mostAmount
+pub month-returns-le : (b : Basin) → Accepted b → (c : Carried) (runoff arrived : List ℕ) (w s : ℕ) → returnsAt b ((month b c runoff arrived) .turns) w s ≤ 256 * mostAmount
 unfolding month
 month-returns-le b acc c runoff arrived w s =
     let o : State = opening b c runoff arrived in
@@ -233,7 +233,7 @@ month-capped b c runoff arrived h =
       marks-count = z .marks-count;
     }
 
-month-in-year : (b : Basin) (c : Carried) (runoff arrived : List ℕ) → c .m < 12 → ((month b c runoff arrived) .carried) .m < 12
+pub month-in-year : (b : Basin) (c : Carried) (runoff arrived : List ℕ) → c .m < 12 → ((month b c runoff arrived) .carried) .m < 12
 unfolding month nextMonth
 month-in-year b c runoff arrived h = by-eqb (c .m) 11 (λ t. cond t 0 (suc (c .m)) < 12) (λ e. omega arith) (λ e. omega arith)
 
@@ -268,7 +268,7 @@ due-on b hs h w k r d = pick (decLt k 12)
     pick (yes l) = omega (arith, pending-on b h w hs k l, d (suc k) (omega arith))
     pick (no l) = omega (arith, pending-ends b (hs ++ (h ∷ [])) w k (omega arith))
 
-month-count : (b : Basin) (c : Carried) (runoff arrived : List ℕ) → length (((month b c runoff arrived) .carried) .storages) ≡ length (b .reservoirs)
+pub month-count : (b : Basin) (c : Carried) (runoff arrived : List ℕ) → length (((month b c runoff arrived) .carried) .storages) ≡ length (b .reservoirs)
 unfolding month
 month-count b c runoff arrived = evaporated-length b (c .m) _
 
