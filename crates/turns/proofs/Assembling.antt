@@ -7,7 +7,8 @@ use native.Mathlib.Omega.{arith}
 use lib.Dec.{ltb, eqb}
 use lib.ListN.{length, getD, set, length-set}
 use Rattle.general.specs.Sums.{sumOver}
-use Rattle.rules.specs.Basin.{Basin, Reservoir, Right, Kind, noReservoir, noRight, rows, patternOf}
+use Rattle.general.proofs.Tests.{absurd-bool, by-eqb}
+use Rattle.rules.specs.Basin.{Basin, Reservoir, Right, Kind, direct, project, instream, storage, noReservoir, noRight, rows, patternOf}
 use Rattle.rules.specs.Returns.{Part, partsOf, returnedAt}
 use Rattle.rules.specs.Turn.{State, demand, riverPart, riverStage, storagePart, storageStage, returnStage, granted, Grant, Turn, turn}
 use Rattle.basin.specs.declared.rights.RightRecord.{RightRecord}
@@ -21,9 +22,11 @@ use Rattle.turns.specs.Dues.{mostAmount}
 use Rattle.turns.specs.Grants.{CanSee, seenBy, partOf, RiverGave}
 use Rattle.turns.specs.Returning.{dueIn, partsIn, RiverOk, BoardOk, Gave}
 use Rattle.turns.specs.Finish.{restOf, CanFinish, Finished, shortReason}
-use Rattle.turns.specs.State.{stateOf, Setting, Within, homeOf, Tells, Turned}
-use Rattle.turns.specs.Stages.{askIn, levelsTaken, CanTake, capacityIn, boardStored, CanFill, CanDraw, Drawn}
-use Rattle.turns.proofs.Facts.{rows-t, kind-is, points-ok}
+use Rattle.turns.specs.State.{stateOf, Setting, Within, homeOf, Tells, Kept, Turned}
+use Rattle.turns.specs.Stages.{isStorage, askIn, levelsTaken, CanTake, capacityIn, boardStored, CanFill, CanDraw, Drawn}
+use Rattle.turns.proofs.Keeping.{kept-same, kept-on, kept-stored, kept-drawn}
+use Rattle.turns.proofs.RightKinds.{not-project}
+use Rattle.turns.proofs.Facts.{rows-t, reservoirs-count, rights-count, place-most, project-behind, storage-behind, kind-is, points-ok}
 use Rattle.turns.proofs.Demands.{ask-is, part-is}
 use Rattle.turns.proofs.StageStates.{river-stage, drawn-is, storage-stage-is, parts-is, pattern-either, return-stage}
 use Rattle.turns.proofs.Serving.{turn-after, turn-river, turn-storage, made, tells}
@@ -32,6 +35,12 @@ use Rattle.turns.proofs.Readying.{can-see, part-le, can-take, can-fill,
 returned-nothing : (p : List ℕ) (k s : ℕ) → returnedAt p k s [] ≡ 0
 unfolding returnedAt sumOver
 returned-nothing p k s = refl
+
+storage-only : (k : Kind) → isStorage k ≡ true → k ≡ storage
+storage-only direct e = absurd-bool e refl
+storage-only project e = absurd-bool e refl
+storage-only instream e = absurd-bool e refl
+storage-only storage e = refl
 
 module _ (b : Basin) (st t rs : List ℕ) (pa : List (List ℕ)) (ri : List ℕ) (w : Setting b st t rs pa ri) (i : ℕ) (hi : i < rightCount ri)
     (m : ℕ) (hm : m < 12) (f a : List ℕ) (sh : List Bool) (bd : List ℕ) (river : RiverOk t f a 4000000000000000000) (board : BoardOk bd 4000000000000000000) (marks : length t ≤ length sh) (within : Within b bd) where
@@ -155,6 +164,21 @@ module _ (b : Basin) (st t rs : List ℕ) (pa : List (List ℕ)) (ri : List ℕ)
             few-points : rr .points ≤ 4
             few-points = (points-ok b st t rs pa ri w i hi) .few
 
+            few : length (b .reservoirs) ≤ 8
+            few = w .accepted .few-reservoirs
+
+            storage-there : isStorage (kindOf (rr .kind)) ≡ true → rr .reservoir < length (b .reservoirs)
+            storage-there z = omega (arith, reservoirs-count b st t rs pa ri w, storage-behind b st t rs pa ri w i hi (kind-is b st t rs pa ri w i hi ∙ storage-only (kindOf (rr .kind)) z))
+
+            project-there : kindOf (rr .kind) ≡ project → rr .reservoir < length (b .reservoirs)
+            project-there e = by-eqb (rr .kind) 2 (λ _. rr .reservoir < length (b .reservoirs)) (λ y. omega (arith, reservoirs-count b st t rs pa ri w, project-behind b st t rs pa ri w i hi y)) (λ y. absurd (not-project (rr .kind) y e))
+
+            kept-all : Kept b bd bd₃
+            kept-all = kept-on b bd bd₁ bd₃
+                (subst (Kept b bd) (sym filled) (kept-stored b bd (rr .reservoir) few (kindOf (rr .kind)) (capacityIn rs (rr .reservoir)) i d storage-there (omega (arith, hi, rights-count b st t rs pa ri w)) (place-most b st t rs pa ri w i hi) (board .size)
+                (unmarked b st t rs pa ri w i hi m hm f a sh bd river board marks within ask d (gave .part) asked)))
+                (kept-on b bd₁ bd₂ bd₃ (subst (Kept b bd₁) (sym (drawn .board)) (kept-drawn b bd₁ (rr .reservoir) few (kindOf (rr .kind)) x project-there)) (kept-same b bd₂ bd₃ (gave-back .same)))
+
             pub turned : Turned b ri i m f a sh bd f₃ a₃ sh₃ bd₃ g
             turned = record {
               state = return-stage b st t rs pa ri w i hi (d + x) (ltb (d + x) ask) f₂ a₁ f₃ a₃ sh sh₃ bd₂ bd₃ (gave-back .levels) (gave-back .same) (finished .marked) marks
@@ -169,6 +193,7 @@ module _ (b : Basin) (st t rs : List ℕ) (pa : List (List ℕ)) (ri : List ℕ)
               grown = λ k h. let l : k < length t = omega (arith, rows-t b st t rs pa ri w) in omega (arith, gave-back .grown k l, few-points, grown₂ b st t rs pa ri w i hi m hm f a sh bd river board marks within ask d (gave .part) asked f₁ a₁ bd₁ taken filled fs gs x f₂ bd₂ (drawn .amount) (drawn .levels a₁) (drawn .board) fs₂ k l);
               within = λ k h. gave-back .within k (omega (arith, rows-t b st t rs pa ri w));
               filled = λ j. omega (arith, gave-back .filled j, few-points, filled₂ b st t rs pa ri w i hi m hm f a sh bd river board marks within ask d (gave .part) asked f₁ a₁ bd₁ taken filled fs gs x f₂ bd₂ (drawn .amount) (drawn .levels a₁) (drawn .board) fs₂ j);
+              kept = kept-all;
             }
 
 -- two basins of one setting have the same capacities and limits

@@ -3,6 +3,7 @@ pub mod Points
 pub mod Looks
 pub mod RightKinds
 pub mod Places
+pub mod Keeping
 pub mod Facts
 pub mod Ending
 pub mod Demands

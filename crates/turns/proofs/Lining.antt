@@ -26,6 +26,7 @@ use Rattle.turns.specs.Returning.{dueIn, RiverOk, BoardOk}
 use Rattle.turns.specs.State.{storagesOf, marksOf, takenOf, stateOf, Setting, Within, whyOf, namedBy, homeOf, Turned}
 use Rattle.turns.specs.Lines.{lineOf, shortOne, CanLine, LineServed, noGrant, grantAt, LinesTo, turnsFrom, ServedTo, Served}
 use Rattle.turns.proofs.Places.{storage-at, taken-at}
+use Rattle.turns.proofs.Keeping.{kept-none, kept-on}
 use Rattle.turns.proofs.Facts.{rows-t, rights-count, right-is}
 
 -- ---- lists from a place on
@@ -216,6 +217,7 @@ module _ (b : Basin) (st t rs : List ℕ) (pa : List (List ℕ)) (ri : List ℕ)
     grown = λ q o. omega arith;
     filled = λ j. omega arith;
     capped = h;
+    kept = kept-none b bd;
   }
 
   module _ (k : ℕ) (hk : k < rightCount ri) (f′ a′ : List ℕ) (sh′ : List Bool) (bd′ rp′ : List ℕ) (c : ℕ) (p : ServedTo b m k f a sh bd rp f′ a′ sh′ bd′ rp′ c) (room : 4 * k + 4 ≤ length rp′) (f″ a″ : List ℕ) (sh″ : List Bool) (bd″ rp″ : List ℕ) (d : ℕ) (q : LineServed b ri k m f′ a′ sh′ bd′ rp′ f″ a″ sh″ bd″ rp″ d) where
@@ -288,6 +290,7 @@ module _ (b : Basin) (st t rs : List ℕ) (pa : List (List ℕ)) (ri : List ℕ)
       grown = λ u o. omega (arith, p .grown u o, q .turned .grown u o);
       filled = λ j. omega (arith, p .filled j, q .turned .filled j);
       capped = capped-within b f″ a″ sh″ bd″ (subst (StateCapped b) (sym (q .turned .state)) (turn-capped b m k r s (right-is b st t rs pa ri w k hk) (within-capped b f′ a′ sh′ bd′ (p .capped))));
+      kept = kept-on b bd bd′ bd″ (p .kept) (q .turned .kept);
     }
 
     -- the loop counts by + 1
@@ -337,4 +340,5 @@ module _ (b : Basin) (st t rs : List ℕ) (pa : List (List ℕ)) (ri : List ℕ)
         within = p .within;
         filled = λ j. omega (arith, p .filled j, e, rights-count b st t rs pa ri w, w .accepted .few-rights);
         capped = p .capped;
+        kept = p .kept;
       }

@@ -76,14 +76,14 @@ bit-zero : (w : ℕ) → bit w 0 ≡ eqb (w % 2) 1
 unfolding bit
 bit-zero w = let e : w / 1 ≡ w = omega arith in rw e
 
-bit-suc : (w k : ℕ) → bit w (suc k) ≡ bit (w / 2) k
+pub bit-suc : (w k : ℕ) → bit w (suc k) ≡ bit (w / 2) k
 unfolding bit
 bit-suc w k = let e : w / 2 ^ suc k ≡ w / 2 / 2 ^ k = rw (pow-suc 2 k, mul-comm (2 ^ k) 2) (sym (div-div-eq-div-mul w 2 (2 ^ k))) in rw e
 
 odd-one : (w : ℕ) → w % 2 ≡ 1 → eqb (w % 2) 1 ≡ true
 odd-one w e = rw e
 
-not-odd : (w : ℕ) → bit w 0 ≡ false → w % 2 ≡ 0
+pub not-odd : (w : ℕ) → bit w 0 ≡ false → w % 2 ≡ 0
 not-odd w h = by-eqb (w % 2) 1 (λ _. w % 2 ≡ 0) (λ e. absurd-bool (odd-one w e) (sym (bit-zero w) ∙ h)) (λ e. omega arith)
 
 bit-set : (v w : ℕ) → bit w v ≡ false → bit (w + 2 ^ v) v ≡ true

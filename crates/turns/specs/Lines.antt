@@ -17,7 +17,7 @@ use Rattle.turns.specs.declared.grants.Reason.the-variants.{StorageOut}
 use Rattle.turns.specs.Dues.{mostAmount}
 use Rattle.turns.specs.Returning.{dueIn, RiverOk, BoardOk}
 use Rattle.turns.specs.Stages.{homeRow}
-use Rattle.turns.specs.State.{stateOf, Setting, Within, Ready, Turned, whyOf, namedBy, homeOf}
+use Rattle.turns.specs.State.{stateOf, Setting, Within, Ready, Kept, Turned, whyOf, namedBy, homeOf}
 
 -- ---- one line
 
@@ -97,6 +97,7 @@ pub record ServedTo (b : Basin) (m k : ℕ) (f a : List ℕ) (sh : List Bool) (b
   pub grown : (w : ℕ) → w < rows b → getD f′ w 0 ≤ getD f w 0 + k * (6 * mostAmount)
   pub filled : (j : ℕ) → getD bd′ j 0 ≤ getD bd j 0 + k * (6 * mostAmount)
   pub capped : Within b bd′
+  pub kept : Kept b bd bd′
 
 -- all rights are served; c of them are short
 pub record Served (b : Basin) (m : ℕ) (f a : List ℕ) (sh : List Bool) (bd rp f′ a′ : List ℕ) (sh′ : List Bool) (bd′ rp′ : List ℕ) (c : ℕ) : Type 0 where
@@ -109,3 +110,4 @@ pub record Served (b : Basin) (m : ℕ) (f a : List ℕ) (sh : List Bool) (bd rp
   pub within : (w : ℕ) → w < rows b → getD a′ w 0 ≤ getD f′ w 0
   pub filled : (j : ℕ) → getD bd′ j 0 ≤ getD bd j 0 + 1536 * mostAmount
   pub capped : Within b bd′
+  pub kept : Kept b bd bd′

@@ -99,6 +99,12 @@ pub record Tells (g : Grant) (home : ℕ) (made : GrantMade) : Type 0 where
 abbrev pub homeOf : Basin → Right → ℕ
 homeOf b r = Rattle.rules.specs.Turn.numberAt (b .stations) ((Rattle.rules.specs.Basin.reservoirOf b r) .row)
 
+-- What no turn changes: places without a reservoir or a right; and a word of marks names only reservoirs that exist.
+pub record Kept (b : Basin) (bd bd′ : List ℕ) : Type 0 where
+  pub no-reservoir : (v : ℕ) → length (b .reservoirs) ≤ v → v < 8 → getD bd′ (1 + v) 0 ≡ getD bd (1 + v) 0
+  pub no-right : (i : ℕ) → length (b .rights) ≤ i → i < 256 → getD bd′ (10 + i) 0 ≡ getD bd (10 + i) 0
+  pub marks : getD bd 9 0 < 2 ^ length (b .reservoirs) → getD bd′ 9 0 < 2 ^ length (b .reservoirs)
+
 pub record Turned (b : Basin) (ri : List ℕ) (i m : ℕ) (f a : List ℕ) (sh : List Bool) (bd f′ a′ : List ℕ) (sh′ : List Bool) (bd′ : List ℕ) (made : GrantMade) : Type 0 where
   pub state : stateOf b f′ a′ sh′ bd′ ≡ (turn b m i (rightOf ri i) (stateOf b f a sh bd)) .after-returns
   pub tells : Tells ((turn b m i (rightOf ri i) (stateOf b f a sh bd)) .grant) (homeOf b (rightOf ri i)) made
@@ -112,3 +118,4 @@ pub record Turned (b : Basin) (ri : List ℕ) (i m : ℕ) (f a : List ℕ) (sh :
   pub grown : (w : ℕ) → w < rows b → getD f′ w 0 ≤ getD f w 0 + 6 * mostAmount
   pub within : (w : ℕ) → w < rows b → getD a′ w 0 ≤ getD f′ w 0
   pub filled : (j : ℕ) → getD bd′ j 0 ≤ getD bd j 0 + 6 * mostAmount
+  pub kept : Kept b bd bd′
