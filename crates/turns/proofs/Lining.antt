@@ -13,7 +13,7 @@ use lib.Seq.{getD-set-same, getD-set-other}
 use Rattle.general.proofs.Lists.{getD-map-in}
 use Rattle.general.proofs.Tables.{tab-length}
 use Rattle.general.proofs.Tests.{by-eqb}
-use Rattle.rules.specs.Basin.{Right, Basin, noRight, rows, reservoirAt, rightAt, patternOf}
+use Rattle.rules.specs.Basin.{Right, Basin, noRight, reservoirAt, rightAt, patternOf}
 use Rattle.rules.specs.Returns.{returnedAt, partsOf}
 use Rattle.rules.specs.Turn.{State, Grant, granted, Turn, turn}
 use Rattle.rules.specs.Month.{turns, afterTurns, grantsOf, returnedBy, returnsAt, reasonNumber, isShort, shortCount}

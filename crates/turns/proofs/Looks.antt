@@ -7,7 +7,7 @@ use Prim.Native.Nat.{ℕ, zero, suc, _+_, _*_, _≤_, _<_, min}
 use native.Mathlib.Nat.{le-trans, le-refl}
 use native.Mathlib.Omega.{arith}
 use lib.Dec.{ltb, eqb}
-use lib.ListN.{length, getD}
+use lib.ListN.{getD}
 use Rattle.general.specs.Tests.{has}
 use Rattle.general.proofs.Search.{has-head, has-tail, has-other, has-none}
 use Rattle.general.proofs.Tables.{tab-at}

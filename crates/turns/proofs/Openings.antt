@@ -14,7 +14,7 @@ use Rattle.general.proofs.Sums.{sumTo-same}
 use Rattle.general.proofs.Tables.{tab-length, tab-at, tab-same}
 use Rattle.rules.specs.Basin.{Basin, rows}
 use Rattle.rules.specs.Path.{path}
-use Rattle.rules.specs.River.{Level, along, returned}
+use Rattle.rules.specs.River.{Level, returned}
 use Rattle.rules.specs.Month.{gathered, openingLevels}
 use Rattle.basin.specs.Table.{pathBy}
 use Rattle.river.specs.Arrays.{levelsOf, level, rowLevel, CanReturn, Walked}

@@ -7,7 +7,7 @@ use native.Mathlib.Numerals.{add-one}
 use native.Mathlib.Omega.{arith}
 use native.Mathlib.Decide.{decLt}
 use lib.Dec.{eqb}
-use lib.ListN.{length, getD}
+use lib.ListN.{getD}
 use Rattle.general.specs.Sums.{sumOver, sum, sumTo, only}
 use Rattle.general.specs.Tables.{tab}
 use Rattle.general.specs.Tests.{has}

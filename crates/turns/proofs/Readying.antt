@@ -14,7 +14,7 @@ use Rattle.general.specs.Sums.{only}
 use Rattle.general.specs.Tests.{has}
 use Rattle.general.proofs.Signed.{up, dn, lower-law}
 use Rattle.general.proofs.Tests.{absurd-bool, by-eqb, eq-of, eqb-other, only-le}
-use Rattle.rules.specs.Basin.{Reservoir, Kind, direct, project, instream, storage, Right, Basin, rows, reservoirAt, rightAt}
+use Rattle.rules.specs.Basin.{Reservoir, Kind, direct, project, instream, storage, Right, Basin, reservoirAt, rightAt}
 use Rattle.rules.specs.River.{Level, levelAt, along, diverted, reserved, released}
 use Rattle.rules.specs.Turn.{bit}
 use Rattle.basin.specs.Records.{rowsOf, reservoirCount, rightCount, rightRecord, kindOf, rightOf}

@@ -13,7 +13,7 @@ use Rattle.general.proofs.Tests.{eqb-other, eqb-same, by-eqb, ltb-yes, ltb-no}
 use Rattle.general.specs.Sums.{only}
 use Rattle.rules.specs.Basin.{Kind, direct, project, instream, storage}
 use Rattle.rules.specs.Path.{untilRow}
-use Rattle.rules.specs.River.{Level, along, diverted, reserved, released}
+use Rattle.rules.specs.River.{Level, diverted, reserved, released}
 use Rattle.rules.specs.Turn.{bit}
 use Rattle.basin.specs.Records.{kindOf, rightRecord, amountAt}
 use Rattle.basin.specs.Table.{pathBy}

@@ -6,7 +6,7 @@ use mathlib.Core.Path.{_≡_, refl, sym, ap, _∙_, subst}
 use Prim.Native.Nat.{ℕ, zero, suc, _+_, _-_, _*_, _/_, _≤_, _<_, min}
 use native.Mathlib.Omega.{arith}
 use lib.Dec.{ltb, eqb}
-use lib.ListN.{length, getD, set}
+use lib.ListN.{getD, set}
 use lib.IntN.{ℤ, pos}
 use lib.Signed.{leZ, ≤ℤ-refl}
 use Rattle.general.specs.Sums.{only}

@@ -2,9 +2,9 @@
 use mathlib.Core.Bool.{Bool, true, false, cond}
 use mathlib.Core.List.{List, [], _∷_}
 use mathlib.Core.Path.{_≡_}
-use Prim.Native.Nat.{ℕ, _≤_, _<_, min}
+use Prim.Native.Nat.{ℕ, _<_, min}
 use lib.Dec.{eqb}
-use lib.ListN.{length, getD}
+use lib.ListN.{getD}
 use Rattle.general.specs.Tests.{has}
 use Rattle.rules.specs.Turn.{numberAt}
 use Rattle.basin.specs.Records.{rowsOf, stationsOf}

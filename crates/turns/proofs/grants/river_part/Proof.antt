@@ -1,19 +1,9 @@
-use Prim.Native.Nat.{ℕ, zero, suc, _+_, _-_, _*_, _/_, _%_, _≤_, _<_, min}
-use mathlib.Core.Path.{_≡_, refl, sym, ap, _∙_, subst}
-use mathlib.Core.List.{List, [], _∷_, _++_}
-use mathlib.Core.Bool.{Bool, true, false, not, cond}
+use mathlib.Core.Path.{sym, _∙_}
 use native.Mathlib.Omega.{arith}
 use borrow.Author.Needs.{needs}
-use borrow.Author.Tests.{lt-ltb, le-ltb, eq-eqb, ne-eqb, le-leb, lt-leb, not-true, not-false}
-use lib.ListN.{length, getD, set, drop, length-set}
 use denote.Ref.{now}
 use Rattle.turns.proofs.grants.river_part.Statement.{statement}
 use Rattle.turns.proofs.grants.river_part.Tie as tie
-use Rattle.turns.proofs.grants.river_part.Reads as reads
-use Rattle.turns.proofs.grants.river_part.Lts as lts
-use Rattle.river.proofs.look.Reads as look-reads
-use Rattle.turns.proofs.grants.station_number.Reads as station-number-reads
-use Rattle.turns.proofs.numbers.lesser.Reads as lesser-reads
 use Rattle.general.proofs.Tests.{eqb-other}
 use Rattle.turns.proofs.Looks.{own-in, called-in, low-in, low-on, gave-nothing, gave-instream, gave-called, gave-low}
 

@@ -1,19 +1,12 @@
-use Prim.Native.Nat.{ℕ, zero, suc, _+_, _-_, _*_, _/_, _%_, _≤_, _<_, min}
-use mathlib.Core.Path.{_≡_, refl, sym, ap, _∙_, subst}
-use mathlib.Core.List.{List, [], _∷_, _++_}
-use mathlib.Core.Bool.{Bool, true, false, not, cond}
+use Prim.Native.Nat.{ℕ, _+_, _-_, _*_, _≤_}
+use mathlib.Core.Path.{ap, subst}
 use native.Mathlib.Omega.{arith}
 use borrow.Author.Needs.{needs}
-use borrow.Author.Tests.{lt-ltb, le-ltb, eq-eqb, ne-eqb, le-leb, lt-leb, not-true, not-false}
-use lib.ListN.{length, getD, set, drop, length-set}
+use lib.ListN.{getD}
 use denote.Ref.{now}
 use Rattle.turns.proofs.opening.gather.Statement.{statement}
 use Rattle.turns.proofs.opening.gather.Tie as tie
-use Rattle.turns.proofs.opening.gather.Reads as reads
-use Rattle.turns.proofs.opening.gather.Lts as lts
-use Rattle.river.proofs.put_back.Reads as put-back-reads
-use Rattle.turns.proofs.numbers.wide32.Reads as wide32-reads
-use Rattle.turns.specs.Opening.{inflow, Gathered}
+use Rattle.turns.specs.Opening.{Gathered}
 use Rattle.turns.proofs.Openings.{gathered-none, gathered-more, can-send}
 
 abbrev Inv-loop : tie.InvT-loop

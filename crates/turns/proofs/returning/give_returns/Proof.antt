@@ -1,25 +1,14 @@
-use Prim.Native.Nat.{ℕ, zero, suc, _+_, _-_, _*_, _/_, _%_, _≤_, _<_, min}
-use mathlib.Core.Path.{_≡_, refl, sym, ap, _∙_, subst}
-use mathlib.Core.List.{List, [], _∷_, _++_}
-use mathlib.Core.Bool.{Bool, true, false, not, cond}
+use Prim.Native.Nat.{ℕ, _+_, _-_, _*_, _/_, _≤_, _<_}
+use mathlib.Core.Path.{_≡_, refl, ap, _∙_, subst}
+use mathlib.Core.List.{[]}
 use native.Mathlib.Omega.{arith}
 use borrow.Author.Needs.{needs}
-use borrow.Author.Tests.{lt-ltb, le-ltb, eq-eqb, ne-eqb, le-leb, lt-leb, not-true, not-false}
-use lib.ListN.{length, getD, set, drop, length-set}
+use lib.ListN.{getD}
 use denote.Ref.{now}
 use Rattle.turns.proofs.returning.give_returns.Statement.{statement}
 use Rattle.turns.proofs.returning.give_returns.Tie as tie
-use Rattle.turns.proofs.returning.give_returns.Reads as reads
-use Rattle.turns.proofs.returning.give_returns.Lts as lts
-use Rattle.basin.proofs.bytes.index.Reads as index-reads
-use Rattle.basin.proofs.rights.return_percent.Reads as return-percent-reads
-use Rattle.basin.proofs.rights.return_row.Reads as return-row-reads
-use Rattle.turns.proofs.numbers.wide8.Reads as wide8-reads
-use Rattle.turns.proofs.returning.give_share.Reads as give-share-reads
-use Rattle.turns.proofs.split.split.Reads as split-reads
 use native.Mathlib.Nat.{mul-le-mul}
 use Rattle.rules.specs.Returns.{Part}
-use Rattle.turns.specs.Dues.{mostAmount, roomy, Roomy, Lagged}
 use Rattle.turns.specs.Returning.{pointsUpTo, partIn, Gave}
 use Rattle.turns.proofs.Points.{points-none, points-more, points-le, amount-is, part-is, can-return, gave-none, gave-more, river-after}
 

@@ -1,17 +1,7 @@
-use Prim.Native.Nat.{ℕ, zero, suc, _+_, _-_, _*_, _/_, _%_, _≤_, _<_, min}
-use mathlib.Core.Path.{_≡_, refl, sym, ap, _∙_, subst}
-use mathlib.Core.List.{List, [], _∷_, _++_}
-use mathlib.Core.Bool.{Bool, true, false, not, cond}
-use native.Mathlib.Omega.{arith}
 use borrow.Author.Needs.{needs}
-use borrow.Author.Tests.{lt-ltb, le-ltb, eq-eqb, ne-eqb, le-leb, lt-leb, not-true, not-false}
-use lib.ListN.{length, getD, set, drop, length-set}
 use denote.Ref.{now}
 use Rattle.turns.proofs.returning.give_share.Statement.{statement}
 use Rattle.turns.proofs.returning.give_share.Tie as tie
-use Rattle.turns.proofs.returning.give_share.Reads as reads
-use Rattle.turns.proofs.returning.give_share.Lts as lts
-use Rattle.river.proofs.put_back.Reads as put-back-reads
 use Rattle.basin.specs.Table.{pathBy}
 use Rattle.turns.proofs.Points.{put-nothing}
 

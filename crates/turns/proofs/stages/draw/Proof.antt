@@ -1,20 +1,10 @@
-use Prim.Native.Nat.{ℕ, zero, suc, _+_, _-_, _*_, _/_, _%_, _≤_, _<_, min}
-use mathlib.Core.Path.{_≡_, refl, sym, ap, _∙_, subst}
-use mathlib.Core.List.{List, [], _∷_, _++_}
-use mathlib.Core.Bool.{Bool, true, false, not, cond}
+use mathlib.Core.Path.{ap, _∙_}
 use native.Mathlib.Omega.{arith}
 use borrow.Author.Needs.{needs}
-use borrow.Author.Tests.{lt-ltb, le-ltb, eq-eqb, ne-eqb, le-leb, lt-leb, not-true, not-false}
-use lib.ListN.{length, getD, set, drop, length-set}
+use borrow.Author.Tests.{eq-eqb}
 use denote.Ref.{now}
 use Rattle.turns.proofs.stages.draw.Statement.{statement}
 use Rattle.turns.proofs.stages.draw.Tie as tie
-use Rattle.turns.proofs.stages.draw.Reads as reads
-use Rattle.turns.proofs.stages.draw.Lts as lts
-use Rattle.basin.proofs.bytes.index.Reads as index-reads
-use Rattle.basin.proofs.reservoirs.reservoir_at.Reads as reservoir-at-reads
-use Rattle.river.proofs.release.Reads as release-reads
-use Rattle.turns.proofs.numbers.lesser.Reads as lesser-reads
 use Rattle.turns.proofs.RightKinds.{drawn-not, drawn-nothing, drawn-yes}
 use Rattle.basin.specs.declared.reservoirs.ReservoirRecord.{ReservoirRecord}
 

@@ -1,17 +1,8 @@
-use Prim.Native.Nat.{ℕ, zero, suc, _+_, _-_, _*_, _/_, _%_, _≤_, _<_, min}
-use mathlib.Core.Path.{_≡_, refl, sym, ap, _∙_, subst}
-use mathlib.Core.List.{List, [], _∷_, _++_}
-use mathlib.Core.Bool.{Bool, true, false, not, cond}
 use native.Mathlib.Omega.{arith}
 use borrow.Author.Needs.{needs}
-use borrow.Author.Tests.{lt-ltb, le-ltb, eq-eqb, ne-eqb, le-leb, lt-leb, not-true, not-false}
-use lib.ListN.{length, getD, set, drop, length-set}
 use denote.Ref.{now}
 use Rattle.turns.proofs.stages.take.Statement.{statement}
 use Rattle.turns.proofs.stages.take.Tie as tie
-use Rattle.turns.proofs.stages.take.Reads as reads
-use Rattle.turns.proofs.stages.take.Lts as lts
-use Rattle.river.proofs.divert.Reads as divert-reads
 use Rattle.general.proofs.Tests.{eqb-other}
 use Rattle.turns.proofs.RightKinds.{taken-nothing, taken-instream, taken-along}
 
