@@ -31,7 +31,13 @@ pub fn divert(below: &[u8; 64], flow: &mut [u64; 64], available: &mut [u64; 64],
 }
 
 // d more in flow and available flow all along the path.
-pub fn put_back(below: &[u8; 64], flow: &mut [u64; 64], available: &mut [u64; 64], row: usize, d: u64)
+pub fn put_back(
+    below: &[u8; 64],
+    flow: &mut [u64; 64],
+    available: &mut [u64; 64],
+    row: usize,
+    d: u64,
+)
     requires { ⌜ CanReturn (now below) row d (now flow) (now available) ⌝ }
     ensures { λ _. ⌜ Walked (returned d) (pathBy (now (below .entry)) row) (now (flow .entry)) (now (available .entry)) (now (flow .exit)) (now (available .exit)) ⌝ }
 {
@@ -69,7 +75,13 @@ fn lower(available: &[u64; 64], row: usize, low: usize) -> usize
 }
 
 // What `look` sees, as a number: a row with the lowest flow by itself, the row of a short right with 64 added. An answer that is one number stays in a register.
-fn look_down(below: &[u8; 64], short: &[bool; 64], available: &[u64; 64], row: usize, low: usize) -> usize
+fn look_down(
+    below: &[u8; 64],
+    short: &[bool; 64],
+    available: &[u64; 64],
+    row: usize,
+    low: usize,
+) -> usize
     requires { ⌜ CanLook (now below) row low ⌝ }
     ensures { λ r. ⌜ seenAs r ≡ seenOn (now (short .entry)) (now (available .entry)) low (pathBy (now (below .entry)) row) ⌝ }
 {
@@ -84,7 +96,13 @@ fn look_down(below: &[u8; 64], short: &[bool; 64], available: &[u64; 64], row: u
 }
 
 // The first row of a short right on the path; where there is none, the first row with the lowest available flow, `low` being the lowest so far.
-pub fn look(below: &[u8; 64], short: &[bool; 64], available: &[u64; 64], row: usize, low: usize) -> Seen
+pub fn look(
+    below: &[u8; 64],
+    short: &[bool; 64],
+    available: &[u64; 64],
+    row: usize,
+    low: usize,
+) -> Seen
     requires { ⌜ CanLook (now below) row low ⌝ }
     ensures { λ r. ⌜ r ≡ seenOn (now (short .entry)) (now (available .entry)) low (pathBy (now (below .entry)) row) ⌝ }
 {

@@ -336,6 +336,9 @@ module _ (b : Basin) (st t rs : List ℕ) (pa : List (List ℕ)) (ri : List ℕ)
         month = p .month;
         lines = subst (λ (n : ℕ). LinesTo all n rp rp′) (e ∙ sym (rights-count b st t rs pa ri w)) (p .lines);
         size = p .size;
+        flow-size = p .flow-size;
+        available-size = p .available-size;
+        short-size = p .short-size;
         within = λ u o. p .within u (omega (arith, o, w .accepted .few-rows));
         filled = λ j. omega (arith, p .filled j, e, rights-count b st t rs pa ri w, w .accepted .few-rights);
         capped = p .capped;

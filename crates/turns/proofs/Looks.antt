@@ -93,10 +93,10 @@ seen-low sh a low (x ∷ p) q e = go (getD sh x false) refl (λ l. seen-low sh a
 
 -- ---- at the right's own row
 
-module _ (st t a : List ℕ) (sh : List Bool) (row : ℕ) (o : CanSee st t row) where
-  pub own-in : row < rowsOf st
-  own-in = o .stationed row (by-self t (o .row-ok .downhill) row (o .row-ok .on))
+pub own-in : (st t : List ℕ) (row : ℕ) → CanSee st t row → row < rowsOf st
+own-in st t row o = o .stationed row (by-self t (o .row-ok .downhill) row (o .row-ok .on))
 
+module _ (st t a : List ℕ) (sh : List Bool) (row : ℕ) (o : CanSee st t row) where
   pub called-in : (q : ℕ) → seenOn sh a row (pathBy t row) ≡ seen.Called q → q < rowsOf st
   called-in q e = o .stationed q (seen-called sh a row (pathBy t row) q e .0)
 

@@ -20,7 +20,7 @@ use Rattle.basin.specs.Table.{pathBy}
 use Rattle.river.specs.Arrays.{levelsOf, level, rowLevel, CanReturn, Walked}
 use Rattle.river.proofs.Levels.{returned-read}
 use Rattle.river.proofs.Table.{by-in}
-use Rattle.turns.specs.Returning.{dueIn}
+use Rattle.turns.specs.Returning.{dueIn, RiverOk}
 use Rattle.turns.specs.State.{Setting}
 use Rattle.turns.specs.Opening.{mostInflow, inflow, sentTo, CanGather, Gathered, openedAt, openedBoard}
 use Rattle.turns.proofs.Facts.{path-is}
@@ -77,6 +77,16 @@ module _ (t runoff bd f₀ a₀ : List ℕ) (c : CanGather t runoff bd f₀ a₀
           places = omega (arith, g .places, z .flow-size);
           places₂ = omega (arith, g .places₂, z .available-size);
         }
+
+  -- what is gathered leaves room for every turn of the month
+  pub gathered-river : (f a : List ℕ) → Gathered t runoff bd (length runoff) f a → RiverOk t f a 1000000000000000000
+  gathered-river f a g = record {
+    downhill = c .downhill;
+    places = g .places;
+    places₂ = g .places₂;
+    room = λ i h. omega (arith, g .flow i h, sent-most t runoff bd (c .small) (length runoff) i, c .sheet);
+    within = λ i h. omega (arith, g .flow i h, g .available i h);
+  }
 
 -- ---- the rules' opening
 

@@ -107,6 +107,9 @@ pub record Served (b : Basin) (m : ℕ) (f a : List ℕ) (sh : List Bool) (bd rp
   pub month : getD bd′ 0 0 ≡ getD bd 0 0
   pub lines : LinesTo (turnsFrom b m (stateOf b f a sh bd)) (length (b .rights)) rp rp′
   pub size : length bd′ ≡ length bd
+  pub flow-size : length f′ ≡ length f
+  pub available-size : length a′ ≡ length a
+  pub short-size : length sh′ ≡ length sh
   pub within : (w : ℕ) → w < rows b → getD a′ w 0 ≤ getD f′ w 0
   pub filled : (j : ℕ) → getD bd′ j 0 ≤ getD bd j 0 + 1536 * mostAmount
   pub capped : Within b bd′

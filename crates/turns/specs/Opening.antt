@@ -32,7 +32,7 @@ pub record CanGather (t runoff bd f a : List ℕ) : Type 0 where
   pub empty : (i : ℕ) → getD f i 0 ≡ 0
   pub empty₂ : (i : ℕ) → getD a i 0 ≡ 0
 
--- flow and available flow at each row are what the first k rows send there
+-- flow and available flow at each row are what the first k rows send there, and each row has its place still
 pub record Gathered (t runoff bd : List ℕ) (k : ℕ) (f a : List ℕ) : Type 0 where
   pub flow : (i : ℕ) → i < 64 → getD f i 0 ≡ sentTo t runoff bd k i
   pub available : (i : ℕ) → i < 64 → getD a i 0 ≡ sentTo t runoff bd k i

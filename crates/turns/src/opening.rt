@@ -7,7 +7,13 @@ use crate::numbers::wide32;
 use river::put_back;
 
 // What enters at each row of the sheet, runoff and the returns that arrive, flows down its path. Available flow starts equal to flow.
-pub fn gather(below: &[u8; 64], runoff: &[u32], board: &[u64], flow: &mut [u64; 64], available: &mut [u64; 64])
+pub fn gather(
+    below: &[u8; 64],
+    runoff: &[u32],
+    board: &[u64],
+    flow: &mut [u64; 64],
+    available: &mut [u64; 64],
+)
     requires { ⌜ CanGather (now below) (now runoff) (now board) (now flow) (now available) ⌝ }
     ensures { λ _. ⌜ Gathered (now (below .entry)) (now (runoff .entry)) (now (board .entry)) (length (now (runoff .entry))) (now (flow .exit)) (now (available .exit)) ⌝ }
 {

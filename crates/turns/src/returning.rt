@@ -13,7 +13,13 @@ use basin::rights::return_row;
 use river::put_back;
 
 // A share goes back to the river along the path of its row. A share of nothing is no work.
-fn give_share(below: &[u8; 64], flow: &mut [u64; 64], available: &mut [u64; 64], row: usize, share: u64)
+fn give_share(
+    below: &[u8; 64],
+    flow: &mut [u64; 64],
+    available: &mut [u64; 64],
+    row: usize,
+    share: u64,
+)
     requires { ⌜ CanReturn (now below) row share (now flow) (now available) ⌝ }
     ensures { λ _. ⌜ Walked (returned share) (pathBy (now (below .entry)) row) (now (flow .entry)) (now (available .entry)) (now (flow .exit)) (now (available .exit)) ⌝ }
 {

@@ -85,7 +85,14 @@ pub fn demand_of(
 }
 
 // The river part d leaves the river: an instream right's the available flow at its row alone, another's flow and available flow along the path. A part of nothing is no work.
-pub fn take(below: &[u8; 64], flow: &mut [u64; 64], available: &mut [u64; 64], kind: u8, row: usize, d: u64)
+pub fn take(
+    below: &[u8; 64],
+    flow: &mut [u64; 64],
+    available: &mut [u64; 64],
+    kind: u8,
+    row: usize,
+    d: u64,
+)
     requires { ⌜ CanTake kind (now below) row d (now flow) (now available) ⌝ }
     ensures { λ _. ⌜ Taken kind (now (below .entry)) row d (now (flow .entry)) (now (available .entry)) (now (flow .exit)) (now (available .exit)) ⌝ }
 {

@@ -29,7 +29,7 @@ lesser-requires c κs = search needs
 station-number-requires : tie.Need-station-number-requires
 station-number-requires c κs =
     let b = c .before .before .before .before .before in
-    own-in (now (b .args .stations)) (now (b .args .below)) (now (b .args .available)) (now (b .args .short)) (b .args .row) (b .pre)
+    own-in (now (b .args .stations)) (now (b .args .below)) (b .args .row) (b .pre)
 
 -- src/grants.rt:61:9
 returns-2 : tie.Need-returns-2
