@@ -43,7 +43,7 @@ pub next-none : (t : List ℕ) (r x : ℕ) → x ≡ getD t r 0 → 64 ≤ x →
 next-none t r x e h = rw (step-none t r (omega arith))
 
 module _ (t : List ℕ) (d : Downhill t) where
-  downhill-later : Later (stepOf t) 64
+  pub downhill-later : Later (stepOf t) 64
   unfolding stepOf
   downhill-later r q h e = go (ltb (getD t r 0) 64) refl e
     where

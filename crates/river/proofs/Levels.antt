@@ -3,7 +3,7 @@ use mathlib.Core.Bool.{Bool, true, false, cond}
 use mathlib.Core.List.{List, [], _∷_}
 use mathlib.Core.Logic.{_≢_}
 use mathlib.Core.Path.{_≡_, refl, sym, ap, _∙_}
-use Prim.Native.Nat.{ℕ, zero, suc, _+_, _-_, _<_, _≤_}
+use Prim.Native.Nat.{ℕ, _+_, _-_, _<_, _≤_}
 use native.Mathlib.Omega.{arith}
 use lib.ListN.{length, getD, set}
 use lib.Seq.{getD-set-same, getD-set-other, ext-getD}
@@ -91,7 +91,7 @@ pub reserved-level : (x y d : ℕ) → d ≤ y → level x (y - d) ≡ reserved 
 unfolding reserved
 reserved-level x y d k = rw (sub-pos y d k)
 
--- nothing diverted, returned or released changes nothing
+-- nothing diverted, reserved, returned or released changes nothing
 less-zero : (z : ℤ) → z -ℤ pos 0 ≡ z
 less-zero z = eq-make (omega (arith, lower-law z 0))
 
@@ -101,6 +101,10 @@ more-zero z = eq-make (omega (arith, raise-law z 0))
 pub diverted-zero : (x : Level) → diverted 0 x ≡ x
 unfolding diverted
 diverted-zero x = λ i. record { flow = less-zero (x .flow) i; available = less-zero (x .available) i }
+
+pub reserved-zero : (x : Level) → reserved 0 x ≡ x
+unfolding reserved
+reserved-zero x = λ i. record { flow = x .flow; available = less-zero (x .available) i }
 
 pub returned-zero : (x : Level) → returned 0 x ≡ x
 unfolding returned

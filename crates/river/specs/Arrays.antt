@@ -1,18 +1,17 @@
 -- The arrays of a month as the rules' levels, and what each walk along a path asks for.
 use mathlib.Core.Bool.{Bool, true, false, cond}
 use mathlib.Core.List.{List, [], _∷_}
-use mathlib.Core.Option.{Option, none, some}
 use mathlib.Core.Path.{_≡_}
-use Prim.Native.Nat.{ℕ, _+_, _≤_, _<_}
+use Prim.Native.Nat.{ℕ, _+_, _-_, _≤_, _<_}
 use lib.Dec.{ltb}
 use lib.ListN.{length, getD}
 use lib.IntN.{pos}
 use Rattle.general.specs.Tables.{tab}
 use Rattle.general.specs.Tests.{has}
-use Rattle.rules.specs.River.{Level}
+use Rattle.rules.specs.River.{Level, along}
+use Rattle.basin.specs.Table.{pathBy, OnTable}
 use Rattle.river.specs.declared.Seen.{Seen}
 use Rattle.river.specs.declared.Seen.the-variants.{Called, Low}
-use Rattle.river.specs.Table.{pathBy, Downhill}
 
 -- ---- flow f and available flow a at each of n rows
 
@@ -32,13 +31,11 @@ unfoldable pub seenOn : List Bool → List ℕ → ℕ → List ℕ → Seen
 seenOn short a low [] = Low low
 seenOn short a low (q ∷ p) = cond (getD short q false) (Called q) (seenOn short a (cond (ltb (getD a q 0) (getD a low 0)) q low) p)
 
--- ---- what a walk asks for
+-- the number that tells it: a row by itself, the row of a short right with 64 added
+unfoldable pub seenAs : ℕ → Seen
+seenAs c = cond (ltb c 64) (Low c) (Called (c - 64))
 
--- a row of the table, and arrays with a place for each row
-pub record OnRow (t : List ℕ) (row size : ℕ) : Type 0 where
-  pub downhill : Downhill t
-  pub on : row < length t
-  pub places : length t ≤ size
+-- ---- what a walk asks for
 
 -- at each row of p there is at least d
 pub record Enough (d : ℕ) (p l : List ℕ) : Type 0 where
@@ -49,22 +46,37 @@ pub record Room (d : ℕ) (p l : List ℕ) : Type 0 where
   pub fits : (k : ℕ) → has k p ≡ true → getD l k 0 + d < 18446744073709551616
 
 pub record CanDivert (t : List ℕ) (row d : ℕ) (f a : List ℕ) : Type 0 where
-  pub row-ok : OnRow t row (length f)
-  pub places : length t ≤ length a
+  pub row-ok : OnTable t row
+  pub places : 64 ≤ length f
+  pub places₂ : 64 ≤ length a
   pub flows : Enough d (pathBy t row) f
   pub availables : Enough d (pathBy t row) a
 
 pub record CanReturn (t : List ℕ) (row d : ℕ) (f a : List ℕ) : Type 0 where
-  pub row-ok : OnRow t row (length f)
-  pub places : length t ≤ length a
+  pub row-ok : OnTable t row
+  pub places : 64 ≤ length f
+  pub places₂ : 64 ≤ length a
   pub flows : Room d (pathBy t row) f
   pub availables : Room d (pathBy t row) a
 
 pub record CanRelease (t : List ℕ) (row d : ℕ) (f : List ℕ) : Type 0 where
-  pub row-ok : OnRow t row (length f)
+  pub row-ok : OnTable t row
+  pub places : 64 ≤ length f
   pub flows : Room d (pathBy t row) f
 
-pub record CanLook (t : List ℕ) (row low : ℕ) (short : List Bool) (a : List ℕ) : Type 0 where
-  pub row-ok : OnRow t row (length a)
-  pub marks : length t ≤ length short
-  pub low-on : low < length t
+pub record CanLook (t : List ℕ) (row low : ℕ) : Type 0 where
+  pub row-ok : OnTable t row
+  pub low-on : low < 64
+
+-- ---- what a walk leaves: f, a before and f′, a′ after
+
+-- g is done to the level of each row of p and to no other, however many rows are asked after
+pub record Walked (g : Level → Level) (p f a f′ a′ : List ℕ) : Type 0 where
+  pub levels : (n : ℕ) → levelsOf n f′ a′ ≡ along g p (levelsOf n f a)
+  pub flow-size : length f′ ≡ length f
+  pub available-size : length a′ ≡ length a
+
+-- the same of a walk that leaves available flow alone, whatever it is
+pub record Raised (g : Level → Level) (p f f′ : List ℕ) : Type 0 where
+  pub levels : (n : ℕ) (a : List ℕ) → levelsOf n f′ a ≡ along g p (levelsOf n f a)
+  pub flow-size : length f′ ≡ length f

@@ -23,10 +23,10 @@ use Rattle.turns.specs.Grants.{CanSee, seenBy, partOf, RiverGave}
 use Rattle.turns.specs.Returning.{dueIn, partsIn, RiverOk, BoardOk, Gave}
 use Rattle.turns.specs.Finish.{restOf, CanFinish, Finished, shortReason}
 use Rattle.turns.specs.State.{stateOf, Setting, Within, homeOf, Tells, Kept, Turned}
-use Rattle.turns.specs.Stages.{isStorage, askIn, levelsTaken, CanTake, capacityIn, boardStored, CanFill, CanDraw, Drawn}
+use Rattle.turns.specs.Stages.{isStorage, askIn, levelsTaken, CanTake, Taken, capacityIn, boardStored, CanFill, levelsReleased, homeRow, CanDraw, Drawn}
 use Rattle.turns.proofs.Keeping.{kept-same, kept-on, kept-stored, kept-drawn}
 use Rattle.turns.proofs.RightKinds.{not-project}
-use Rattle.turns.proofs.Facts.{rows-t, reservoirs-count, rights-count, place-most, project-behind, storage-behind, kind-is, points-ok}
+use Rattle.turns.proofs.Facts.{reservoirs-count, rights-count, place-most, project-behind, storage-behind, kind-is, points-ok}
 use Rattle.turns.proofs.Demands.{ask-is, part-is}
 use Rattle.turns.proofs.StageStates.{river-stage, drawn-is, storage-stage-is, parts-is, pattern-either, return-stage}
 use Rattle.turns.proofs.Serving.{turn-after, turn-river, turn-storage, made, tells}
@@ -43,7 +43,7 @@ storage-only instream e = absurd-bool e refl
 storage-only storage e = refl
 
 module _ (b : Basin) (st t rs : List ℕ) (pa : List (List ℕ)) (ri : List ℕ) (w : Setting b st t rs pa ri) (i : ℕ) (hi : i < rightCount ri)
-    (m : ℕ) (hm : m < 12) (f a : List ℕ) (sh : List Bool) (bd : List ℕ) (river : RiverOk t f a 4000000000000000000) (board : BoardOk bd 4000000000000000000) (marks : length t ≤ length sh) (within : Within b bd) where
+    (m : ℕ) (hm : m < 12) (f a : List ℕ) (sh : List Bool) (bd : List ℕ) (river : RiverOk t f a 4000000000000000000) (board : BoardOk bd 4000000000000000000) (marks : 64 ≤ length sh) (within : Within b bd) where
   abbrev rr : RightRecord
   rr = rightRecord ri i
 
@@ -64,8 +64,8 @@ module _ (b : Basin) (st t rs : List ℕ) (pa : List (List ℕ)) (ri : List ℕ)
     kind-same : q .kind ≡ rr .kind
     kind-same = ap (λ (x : RightRecord). x .kind) eq
 
-    pub see-ok : CanSee st t a sh row
-    see-ok = subst (λ (x : ℕ). CanSee st t a sh x) (sym row-is) (can-see b st t rs pa ri w i hi m hm f a sh bd river board marks within)
+    pub see-ok : CanSee st t row
+    see-ok = subst (λ (x : ℕ). CanSee st t x) (sym row-is) (can-see b st t rs pa ri w i hi m hm f a sh bd river board marks within)
 
     module _ (ask : ℕ) (ra : ask ≡ askIn (kindOf (q .kind)) rs ri i m bd) (z : RiverPart) (rg : RiverGave st t a sh (q .kind) row ask z) where
       asked : ask ≡ askIn (kindOf (rr .kind)) rs ri i m bd
@@ -86,10 +86,18 @@ module _ (b : Basin) (st t rs : List ℕ) (pa : List (List ℕ)) (ri : List ℕ)
       pub fill-ok : CanFill (q .kind) rs v i d bd
       fill-ok = subst (λ (k : ℕ). CanFill k rs v i d bd) (sym kind-same) (subst (λ (x : ℕ). CanFill (rr .kind) rs x i d bd) (sym v-is) (can-fill b st t rs pa ri w i hi m hm f a sh bd river board marks within ask d (gave .part) asked))
 
-      module _ (f₁ a₁ bd₁ : List ℕ) (tk : levelsOf (length t) f₁ a₁ ≡ levelsTaken (kindOf (q .kind)) d t row (levelsOf (length t) f a)) (fl : bd₁ ≡ boardStored (kindOf (q .kind)) (capacityIn rs v) v i d bd)
-          (fs : length f₁ ≡ length f) (gs : length a₁ ≡ length a) where
-        taken : levelsOf (length t) f₁ a₁ ≡ levelsTaken (kindOf (rr .kind)) d t (rr .row) (levelsOf (length t) f a)
-        taken = tk ∙ ap (λ (k : ℕ). levelsTaken (kindOf k) d t row (levelsOf (length t) f a)) kind-same ∙ ap (λ (x : ℕ). levelsTaken (kindOf (rr .kind)) d t x (levelsOf (length t) f a)) row-is
+      module _ (f₁ a₁ bd₁ : List ℕ) (tk : Taken (q .kind) t row d f a f₁ a₁) (fl : bd₁ ≡ boardStored (kindOf (q .kind)) (capacityIn rs v) v i d bd) where
+        took : Taken (rr .kind) t (rr .row) d f a f₁ a₁
+        took = subst (λ (x : ℕ). Taken (rr .kind) t x d f a f₁ a₁) row-is (subst (λ (k : ℕ). Taken k t row d f a f₁ a₁) kind-same tk)
+
+        taken : (n : ℕ) → levelsOf n f₁ a₁ ≡ levelsTaken (kindOf (rr .kind)) d t (rr .row) (levelsOf n f a)
+        taken = took .levels
+
+        fs : length f₁ ≡ length f
+        fs = took .flow-size
+
+        gs : length a₁ ≡ length a
+        gs = took .available-size
 
         filled : bd₁ ≡ boardStored (kindOf (rr .kind)) (capacityIn rs (rr .reservoir)) (rr .reservoir) i d bd
         filled = fl ∙ ap (λ (k : ℕ). boardStored (kindOf k) (capacityIn rs v) v i d bd) kind-same ∙ ap (λ (x : ℕ). boardStored (kindOf (rr .kind)) (capacityIn rs x) x i d bd) v-is
@@ -98,14 +106,20 @@ module _ (b : Basin) (st t rs : List ℕ) (pa : List (List ℕ)) (ri : List ℕ)
         draw-ok = subst (λ (k : ℕ). CanDraw k t rs v (ask - d) f₁ bd₁) (sym kind-same) (subst (λ (x : ℕ). CanDraw (rr .kind) t rs x (ask - d) f₁ bd₁) (sym v-is)
             (can-draw b st t rs pa ri w i hi m hm f a sh bd river board marks within ask d (gave .part) asked f₁ a₁ bd₁ taken filled fs gs))
 
-        module _ (x : ℕ) (f₂ bd₂ : List ℕ) (dr : Drawn (q .kind) t rs v row (ask - d) f₁ bd₁ f₂ bd₂ x) (fs₂ : length f₂ ≡ length f₁) where
+        module _ (x : ℕ) (f₂ bd₂ : List ℕ) (dr : Drawn (q .kind) t rs v row (ask - d) f₁ bd₁ f₂ bd₂ x) where
           drawn : Drawn (rr .kind) t rs (rr .reservoir) (rr .row) (ask - d) f₁ bd₁ f₂ bd₂ x
           drawn = subst (λ (y : ℕ). Drawn (rr .kind) t rs (rr .reservoir) y (ask - d) f₁ bd₁ f₂ bd₂ x) row-is
               (subst (λ (y : ℕ). Drawn (rr .kind) t rs y row (ask - d) f₁ bd₁ f₂ bd₂ x) v-is (subst (λ (k : ℕ). Drawn k t rs v row (ask - d) f₁ bd₁ f₂ bd₂ x) kind-same dr))
 
+          fs₂ : length f₂ ≡ length f₁
+          fs₂ = drawn .flow-size
+
+          released : (n : ℕ) → levelsOf n f₂ a₁ ≡ levelsReleased (kindOf (rr .kind)) x t (homeRow rs (rr .reservoir)) (rr .row) (levelsOf n f₁ a₁)
+          released n = drawn .levels n a₁
+
           pub finish-ok : CanFinish t pa ri i q d x f₂ a₁ sh bd₂
           finish-ok = subst (λ (y : RightRecord). CanFinish t pa ri i y d x f₂ a₁ sh bd₂) (sym eq)
-              (can-finish b st t rs pa ri w i hi m hm f a sh bd river board marks within ask d (gave .part) asked f₁ a₁ bd₁ taken filled fs gs x f₂ bd₂ (drawn .amount) (drawn .levels a₁) (drawn .board) fs₂)
+              (can-finish b st t rs pa ri w i hi m hm f a sh bd river board marks within ask d (gave .part) asked f₁ a₁ bd₁ taken filled fs gs x f₂ bd₂ (drawn .amount) released (drawn .board) fs₂)
 
           module _ (y : why.Reason) (yw : y ≡ shortReason (q .kind) (z .reason)) (f₃ a₃ : List ℕ) (sh₃ : List Bool) (bd₃ : List ℕ) (g : program.Grant)
               (fi : Finished t pa ri i q ask d x y f₂ a₁ sh bd₂ f₃ a₃ sh₃ bd₃ g) where
@@ -126,7 +140,7 @@ module _ (b : Basin) (st t rs : List ℕ) (pa : List (List ℕ)) (ri : List ℕ)
             ed = gave .part ∙ part-is b st t rs pa ri w i hi m hm f a sh bd ask
 
             e₁ : s₁ ≡ riverStage (r .kind) b i r d s
-            e₁ = ap (stateOf b f₁ a₁ sh) filled ∙ river-stage b st t rs pa ri w i hi d f a f₁ a₁ sh bd taken (board .size) (unmarked b st t rs pa ri w i hi m hm f a sh bd river board marks within ask d (gave .part) asked)
+            e₁ = ap (stateOf b f₁ a₁ sh) filled ∙ river-stage b st t rs pa ri w i hi d f a f₁ a₁ sh bd (taken (rows b)) (board .size) (unmarked b st t rs pa ri w i hi m hm f a sh bd river board marks within ask d (gave .part) asked)
 
             size-one : length bd₁ ≡ 970
             size-one = size₁ b st t rs pa ri w i hi m hm f a sh bd river board marks within ask d (gave .part) asked f₁ a₁ bd₁ taken filled fs gs
@@ -135,7 +149,7 @@ module _ (b : Basin) (st t rs : List ℕ) (pa : List (List ℕ)) (ri : List ℕ)
             ex = drawn .amount ∙ drawn-is b st t rs pa ri w i hi (ask - d) f₁ a₁ sh bd₁
 
             e₂ : s₂ ≡ storageStage (r .kind) b r x s₁
-            e₂ = ap (stateOf b f₂ a₁ sh) (drawn .board) ∙ storage-stage-is b st t rs pa ri w i hi x f₁ a₁ f₂ sh bd₁ (drawn .levels a₁) size-one
+            e₂ = ap (stateOf b f₂ a₁ sh) (drawn .board) ∙ storage-stage-is b st t rs pa ri w i hi x f₁ a₁ f₂ sh bd₁ (released (rows b)) size-one
 
             gave-back : Gave t (getD pa (rr .pattern) []) ri i (rr .points) (restOf (d + x) (rr .efficiency)) f₂ a₁ bd₂ f₃ a₃ bd₃
             gave-back = finished .gave
@@ -146,7 +160,7 @@ module _ (b : Basin) (st t rs : List ℕ) (pa : List (List ℕ)) (ri : List ℕ)
             dues-is : (k j : ℕ) → j < 11 → dueIn bd₃ k j ≡ dueIn bd k j + returnedAt (patternOf b r) k (suc j) (partsOf (r .kind) r (granted ((turn b m i r s) .grant)))
             dues-is k j l = gave-back .dues k j l
                 ∙ ap (λ (y : ℕ). y + returnedAt (getD pa (rr .pattern) []) k (suc j) (partsIn ri i (restOf (d + x) (rr .efficiency)) (rr .points)))
-                (dues₂ b st t rs pa ri w i hi m hm f a sh bd river board marks within ask d (gave .part) asked f₁ a₁ bd₁ taken filled fs gs x f₂ bd₂ (drawn .amount) (drawn .levels a₁) (drawn .board) fs₂ (266 + 11 * k + j) (omega arith))
+                (dues₂ b st t rs pa ri w i hi m hm f a sh bd river board marks within ask d (gave .part) asked f₁ a₁ bd₁ taken filled fs gs x f₂ bd₂ (drawn .amount) released (drawn .board) fs₂ (266 + 11 * k + j) (omega arith))
                 ∙ ap (λ (y : ℕ). dueIn bd k j + y)
                 (pattern-either b st t rs pa ri w i hi (λ p qs. returnedAt p k (suc j) qs) (λ p u. none-returned p u k (suc j)) (restOf (d + x) (rr .efficiency))
                 ∙ ap (returnedAt (patternOf b r) k (suc j)) (sym (parts-is b st t rs pa ri w i hi (d + x)) ∙ ap (partsOf (r .kind) r) (sym both)))
@@ -181,18 +195,18 @@ module _ (b : Basin) (st t rs : List ℕ) (pa : List (List ℕ)) (ri : List ℕ)
 
             pub turned : Turned b ri i m f a sh bd f₃ a₃ sh₃ bd₃ g
             turned = record {
-              state = return-stage b st t rs pa ri w i hi (d + x) (ltb (d + x) ask) f₂ a₁ f₃ a₃ sh sh₃ bd₂ bd₃ (gave-back .levels) (gave-back .same) (finished .marked) marks
+              state = return-stage b st t rs pa ri w i hi (d + x) (ltb (d + x) ask) f₂ a₁ f₃ a₃ sh sh₃ bd₂ bd₃ (gave-back .levels (rows b)) (gave-back .same) (finished .marked) marks
                   ∙ sym (turn-after b m i r s ask d x s₁ s₂ ea ed e₁ ex e₂);
               tells = subst (λ (u : program.Grant). Tells ((turn b m i r s) .grant) (homeOf b r) u) (sym (finished .grant)) (tells b st t rs pa ri w i hi f a sh bd m ask d x s₁ s₂ z gave refl ea ed e₁ ex e₂);
               dues = dues-is;
-              month = gave-back .same 0 (omega arith) ∙ month₂ b st t rs pa ri w i hi m hm f a sh bd river board marks within ask d (gave .part) asked f₁ a₁ bd₁ taken filled fs gs x f₂ bd₂ (drawn .amount) (drawn .levels a₁) (drawn .board) fs₂;
-              size = gave-back .size ∙ size₂ b st t rs pa ri w i hi m hm f a sh bd river board marks within ask d (gave .part) asked f₁ a₁ bd₁ taken filled fs gs x f₂ bd₂ (drawn .amount) (drawn .levels a₁) (drawn .board) fs₂;
+              month = gave-back .same 0 (omega arith) ∙ month₂ b st t rs pa ri w i hi m hm f a sh bd river board marks within ask d (gave .part) asked f₁ a₁ bd₁ taken filled fs gs x f₂ bd₂ (drawn .amount) released (drawn .board) fs₂;
+              size = gave-back .size ∙ size₂ b st t rs pa ri w i hi m hm f a sh bd river board marks within ask d (gave .part) asked f₁ a₁ bd₁ taken filled fs gs x f₂ bd₂ (drawn .amount) released (drawn .board) fs₂;
               flow-size = gave-back .flow-size ∙ fs₂ ∙ fs;
               available-size = gave-back .available-size ∙ gs;
               short-size = short-size;
-              grown = λ k h. let l : k < length t = omega (arith, rows-t b st t rs pa ri w) in omega (arith, gave-back .grown k l, few-points, grown₂ b st t rs pa ri w i hi m hm f a sh bd river board marks within ask d (gave .part) asked f₁ a₁ bd₁ taken filled fs gs x f₂ bd₂ (drawn .amount) (drawn .levels a₁) (drawn .board) fs₂ k l);
-              within = λ k h. gave-back .within k (omega (arith, rows-t b st t rs pa ri w));
-              filled = λ j. omega (arith, gave-back .filled j, few-points, filled₂ b st t rs pa ri w i hi m hm f a sh bd river board marks within ask d (gave .part) asked f₁ a₁ bd₁ taken filled fs gs x f₂ bd₂ (drawn .amount) (drawn .levels a₁) (drawn .board) fs₂ j);
+              grown = λ k h. omega (arith, gave-back .grown k h, few-points, grown₂ b st t rs pa ri w i hi m hm f a sh bd river board marks within ask d (gave .part) asked f₁ a₁ bd₁ taken filled fs gs x f₂ bd₂ (drawn .amount) released (drawn .board) fs₂ k h);
+              within = gave-back .within;
+              filled = λ j. omega (arith, gave-back .filled j, few-points, filled₂ b st t rs pa ri w i hi m hm f a sh bd river board marks within ask d (gave .part) asked f₁ a₁ bd₁ taken filled fs gs x f₂ bd₂ (drawn .amount) released (drawn .board) fs₂ j);
               kept = kept-all;
             }
 

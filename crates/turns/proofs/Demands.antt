@@ -25,15 +25,15 @@ use Rattle.rules.specs.Accepted.{GoodRight}
 use Rattle.basin.specs.Records.{reservoirCount, rightCount, rightRecord, amountAt, kindOf, rightOf}
 use Rattle.river.specs.declared.Seen.{Seen}
 use Rattle.river.specs.declared.Seen.the-variants as seen
-use Rattle.river.specs.Table.{pathBy}
+use Rattle.basin.specs.Table.{pathBy}
 use Rattle.river.specs.Arrays.{levelsOf, rowLevel, seenOn}
 use Rattle.river.proofs.Levels.{levels-at}
-use Rattle.river.proofs.Table.{by-in, by-self}
+use Rattle.basin.proofs.Table.{by-self}
 use Rattle.turns.specs.Dues.{mostAmount}
 use Rattle.turns.specs.Grants.{seenBy, partOf}
 use Rattle.turns.specs.State.{storagesOf, marksOf, takenOf, shortOf, stateOf, Setting, Within}
 use Rattle.turns.specs.Stages.{amountIn, askOf, askIn, capacityIn, RoomLeft, isStorage}
-use Rattle.turns.proofs.Facts.{rows-t, few, downhill, path-is, reservoirs-count, rights-count, right-is, capacity-is, right-good, kind-is, row-is, reservoir-of, limit-is, row-in, storage-behind}
+use Rattle.turns.proofs.Facts.{downhill, path-is, path-in, reservoirs-count, rights-count, right-is, capacity-is, right-good, kind-is, row-is, reservoir-of, limit-is, row-in, row-on, storage-behind}
 use Rattle.turns.proofs.Looks.{seen-called, LowSeen, seen-low}
 use Rattle.turns.proofs.RightKinds.{by-kind}
 use Rattle.turns.proofs.Places.{storage-at, taken-at, mark-at}
@@ -174,25 +174,25 @@ module _ (b : Basin) (st t rs : List ℕ) (pa : List (List ℕ)) (ri : List ℕ)
 
     -- ---- the river part
 
-    path-in : (k : ℕ) → has k p ≡ true → k < length t
-    path-in k h = by-in t (downhill b st t rs pa ri w) row (row-in b st t rs pa ri w i hi) k h
+    on-path : (k : ℕ) → has k p ≡ true → k < rows b
+    on-path = path-in b st t rs pa ri w row (row-in b st t rs pa ri w i hi)
 
     pub called-is : called b r s ≡ anyOn sh p
     unfolding called stateOf
-    called-is = rw (path-of, ← rows-t b st t rs pa ri w) (any-same (length t) sh p path-in)
+    called-is = rw path-of (any-same (rows b) sh p on-path)
 
-    pub available-is : (k : ℕ) → k < length t → availableAt (s .levels) k ≡ pos (getD a k 0)
+    pub available-is : (k : ℕ) → k < rows b → availableAt (s .levels) k ≡ pos (getD a k 0)
     unfolding stateOf
-    available-is k h = ap (λ (x : Level). x .available) (levels-at (rows b) f a k (omega (arith, rows-t b st t rs pa ri w)))
+    available-is k h = ap (λ (x : Level). x .available) (levels-at (rows b) f a k h)
 
     pub lowest-is : (q : ℕ) → seenOn sh a row p ≡ seen.Low q → (lowest (s .levels) p ≡ pos (getD a q 0)) × (has q p ≡ true) × (anyOn sh p ≡ false) × ((k : ℕ) → has k p ≡ true → getD a q 0 ≤ getD a k 0)
     lowest-is q e =
         let o : LowSeen sh a row p q = seen-low sh a row p q e in
         let on : has q p ≡ true = place (o .on) in
-        (lowest-nat (s .levels) a (getD a q 0) p (λ k h. available-is k (path-in k h)) (o .least) q on refl, on, o .open-path, o .least)
+        (lowest-nat (s .levels) a (getD a q 0) p (λ k h. available-is k (on-path k h)) (o .least) q on refl, on, o .open-path, o .least)
       where
         place : (q ≡ row) ⊎ (has q p ≡ true) → has q p ≡ true
-        place (inl z) = rw z (by-self t (downhill b st t rs pa ri w) row (row-in b st t rs pa ri w i hi))
+        place (inl z) = rw z (by-self t (downhill b st t rs pa ri w) row (row-on b st t rs pa ri w i hi))
         place (inr h) = h
 
     -- what a right that looks down its path may divert

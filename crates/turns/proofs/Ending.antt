@@ -28,7 +28,7 @@ module _ (t : List ℕ) (pa : List (List ℕ)) (ri : List ℕ) (i : ℕ) (r : Ri
 
   pub can-give : CanFinish t pa ri i r part stored f a sh bd → CanGive t pa ri i points which (restOf (part + stored) e) f a bd
   can-give o = record {
-    points-ok = subst (λ (x : ℕ). PointsOk t pa ri i x which) (sym ep) (subst (λ (x : ℕ). PointsOk t pa ri i (r .points) x) (sym ew) (o .points-ok));
+    points-ok = subst (λ (x : ℕ). PointsOk pa ri i x which) (sym ep) (subst (λ (x : ℕ). PointsOk pa ri i (r .points) x) (sym ew) (o .points-ok));
     small = omega (arith, o .small);
     river = o .river;
     board = o .board;

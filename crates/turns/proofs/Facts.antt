@@ -9,20 +9,22 @@ use lib.Dec.{eqb}
 use lib.ListN.{length, getD, length-map}
 use Rattle.general.specs.Sums.{sumOver, sum, sumTo}
 use Rattle.general.specs.Tables.{tab, All}
+use Rattle.general.specs.Tests.{has}
 use Rattle.general.proofs.Lists.{all-at-place}
 use Rattle.general.proofs.Sums.{sumTo-same, sumTo-list, sum-map}
 use Rattle.general.proofs.Tables.{tab-length, tab-at, sum-tab}
 use Rattle.general.proofs.Tests.{eq-of, by-eqb}
 use Rattle.rules.specs.Basin.{Station, Reservoir, Point, Kind, direct, project, instream, storage, Right, Basin, noReservoir, noRight, rows, reservoirAt, rightAt, reservoirOf, patternOf}
 use Rattle.rules.specs.Path.{path}
+use Rattle.rules.proofs.Path as paths
 use Rattle.rules.specs.Returns.{percents}
 use Rattle.rules.specs.Accepted.{GoodReservoir, GoodRight, ReservoirOk, ReturnsOk, Unreturned, Returned, Accepted}
 use Rattle.basin.specs.declared.rights.RightRecord.{RightRecord}
 use Rattle.basin.specs.Records as records
 use Rattle.basin.specs.Records.{rowsOf, stationsOf, reservoirCount, reservoirRecord, reservoirsOf, rightCount, rightRecord, amountAt, returnRow, returnPercent, kindOf, rightOf, rightsOf}
 use Rattle.basin.proofs.Rows.{rows-are}
-use Rattle.river.specs.Table.{tableOf, pathBy, Downhill}
-use Rattle.river.proofs.Table.{table-length, table-downhill, table-path}
+use Rattle.basin.specs.Table.{tableOf, pathBy, Downhill}
+use Rattle.basin.proofs.Table.{table-downhill, table-path}
 use Rattle.turns.specs.Dues.{mostAmount, Whole}
 use Rattle.turns.specs.Returning.{pointsUpTo, PointsOk}
 use Rattle.turns.specs.State.{Setting}
@@ -31,20 +33,25 @@ use Rattle.turns.specs.Stages.{capacityIn, homeRow}
 module _ (b : Basin) (st t rs : List ℕ) (pa : List (List ℕ)) (ri : List ℕ) (w : Setting b st t rs pa ri) where
   -- ---- counts
 
-  pub rows-t : length t ≡ rows b
-  rows-t = ap length (w .table) ∙ table-length (b .stations)
+  pub rows-st : rowsOf st ≡ rows b
+  rows-st = sym (rows-are st) ∙ ap length (sym (w .stations))
 
-  pub rows-st : rowsOf st ≡ length t
-  rows-st = sym (rows-are st) ∙ ap length (sym (w .stations)) ∙ sym rows-t
+  pub few : rows b ≤ 64
+  few = w .accepted .few-rows
 
-  pub few : length t ≤ 64
-  few = omega (arith, rows-t, w .accepted .few-rows)
+  -- ---- paths
 
   pub downhill : Downhill t
-  downhill = subst Downhill (sym (w .table)) (table-downhill (b .stations) (omega (arith, w .accepted .few-rows)))
+  downhill = subst Downhill (sym (w .table)) (table-downhill (b .stations) few)
 
-  pub path-is : (r : ℕ) → r < length t → pathBy t r ≡ path (b .stations) r
-  path-is r h = ap (λ (x : List ℕ). pathBy x r) (w .table) ∙ table-path (b .stations) (omega (arith, w .accepted .few-rows)) r (omega (arith, rows-t))
+  pub path-is : (r : ℕ) → r < rows b → pathBy t r ≡ path (b .stations) r
+  path-is r h = ap (λ (x : List ℕ). pathBy x r) (w .table) ∙ table-path (b .stations) few r h
+
+  -- a path of a row of the basin has rows of the basin
+  pub path-in : (r : ℕ) → r < rows b → (k : ℕ) → has k (pathBy t r) ≡ true → k < rows b
+  path-in r h k e = paths.path-in (b .stations) r h k (sym (ap (has k) (path-is r h)) ∙ e)
+
+  -- ---- counts of the other parts
 
   pub reservoirs-count : length (b .reservoirs) ≡ reservoirCount rs
   unfolding reservoirsOf
@@ -72,10 +79,10 @@ module _ (b : Basin) (st t rs : List ℕ) (pa : List (List ℕ)) (ri : List ℕ)
   unfolding records.reservoirOf
   home-is v h = ap (λ (x : Reservoir). x .row) (reservoir-is v h)
 
-  pub home-in : (v : ℕ) → v < reservoirCount rs → homeRow rs v < length t
+  pub home-in : (v : ℕ) → v < reservoirCount rs → homeRow rs v < rows b
   home-in v h =
       let g : GoodReservoir b (reservoirAt b v) = all-at-place (GoodReservoir b) (b .reservoirs) noReservoir (w .accepted .reservoirs-good) v (omega (arith, reservoirs-count)) in
-      omega (arith, g .row-in, home-is v h, rows-t)
+      omega (arith, g .row-in, home-is v h)
 
   module _ (i : ℕ) (hi : i < rightCount ri) where
     pub right-good : GoodRight b (rightOf ri i)
@@ -109,8 +116,11 @@ module _ (b : Basin) (st t rs : List ℕ) (pa : List (List ℕ)) (ri : List ℕ)
     unfolding rightOf
     pattern-is = refl
 
-    pub row-in : (rightRecord ri i) .row < length t
-    row-in = omega (arith, right-good .row-in, row-is, rows-t)
+    pub row-in : (rightRecord ri i) .row < rows b
+    row-in = omega (arith, right-good .row-in, row-is)
+
+    pub row-on : (rightRecord ri i) .row < 64
+    row-on = omega (arith, row-in, few)
 
     -- ---- its return points
 
@@ -127,7 +137,28 @@ module _ (b : Basin) (st t rs : List ℕ) (pa : List (List ℕ)) (ri : List ℕ)
     pub points-count : length ((rightOf ri i) .points) ≡ points
     points-count = ap length points-are ∙ tab-length pointAt points
 
-    no-points : (rightOf ri i) .points ≡ [] → PointsOk t pa ri i points ((rightRecord ri i) .pattern)
+    -- either it has none, or they are as accepted
+    by-points : (P : Type 0) → ((rightOf ri i) .points ≡ [] → P) → (Returned b (rightOf ri i) → P) → P
+    by-points P none some = go ((rightOf ri i) .kind) (right-good .returns-ok)
+      where
+        either : Unreturned (rightOf ri i) ⊎ Returned b (rightOf ri i) → P
+        either (inl u) = none (u .no-points)
+        either (inr p) = some p
+
+        go : (k : Kind) → ReturnsOk k b (rightOf ri i) → P
+        go direct o = either o
+        go project o = either o
+        go instream o = none o
+        go storage o = none o
+
+    pub point-in : (k : ℕ) → k < points → returnRow ri i k < rows b
+    point-in k h = by-points (returnRow ri i k < rows b)
+        (λ e. let z : points ≡ 0 = sym points-count ∙ ap length e in absurd (omega arith))
+        (λ p.
+        let e : getD ((rightOf ri i) .points) k (pointAt k) ≡ pointAt k = ap (λ (x : List Point). getD x k (pointAt k)) points-are ∙ tab-at pointAt points k (pointAt k) h in
+        omega (arith, all-at-place (λ (q : Point). q .row < rows b) ((rightOf ri i) .points) (pointAt k) (p .rows-in) k (omega (arith, points-count)), ap (λ (q : Point). q .row) e))
+
+    no-points : (rightOf ri i) .points ≡ [] → PointsOk pa ri i points ((rightRecord ri i) .pattern)
     unfolding sumTo
     no-points e =
         let z : points ≡ 0 = sym points-count ∙ ap length e in
@@ -153,53 +184,27 @@ module _ (b : Basin) (st t rs : List ℕ) (pa : List (List ℕ)) (ri : List ℕ)
     percent-sum =
         sym (sumTo-list (percents (rightOf ri i))) ∙ ap (λ (k : ℕ). sumTo k (λ j. getD (percents (rightOf ri i)) j 0)) percents-count ∙ sumTo-same points _ _ (λ k h. percent-at k h)
 
-    some-points : Returned b (rightOf ri i) → PointsOk t pa ri i points ((rightRecord ri i) .pattern)
+    some-points : Returned b (rightOf ri i) → PointsOk pa ri i points ((rightRecord ri i) .pattern)
     some-points p =
         let same : getD (b .patterns) ((rightRecord ri i) .pattern) [] ≡ getD pa ((rightRecord ri i) .pattern) [] = w .patterns _ (omega (arith, p .pattern-in, pattern-is)) in
         let pat : patternOf b (rightOf ri i) ≡ getD pa ((rightRecord ri i) .pattern) [] = ap (λ (k : ℕ). getD (b .patterns) k []) pattern-is ∙ same in
         record {
           right-in = hi;
           few = omega (arith, p .few-points, points-count);
-          rows = λ k h. row-at k h (all-at-place (λ (q : Point). q .row < rows b) ((rightOf ri i) .points) (pointAt k) (p .rows-in) k (omega (arith, points-count)));
+          rows = λ k h. omega (arith, point-in k h, few);
           percents = omega (arith, percent-sum, p .whole);
           known = λ h. omega (arith, p .pattern-in, pattern-is, w .accepted .few-patterns);
           whole = λ h. record { twelve = sym (ap length pat) ∙ p .pattern-length; hundred = sym (ap sum pat) ∙ p .pattern-whole };
         }
-      where
-        row-at : (k : ℕ) → k < points → (getD ((rightOf ri i) .points) k (pointAt k)) .row < rows b → returnRow ri i k < length t
-        row-at k h l =
-            let e : getD ((rightOf ri i) .points) k (pointAt k) ≡ pointAt k = ap (λ (x : List Point). getD x k (pointAt k)) points-are ∙ tab-at pointAt points k (pointAt k) h in
-            omega (arith, l, ap (λ (q : Point). q .row) e, rows-t)
 
-    some-or-none : Unreturned (rightOf ri i) ⊎ Returned b (rightOf ri i) → PointsOk t pa ri i points ((rightRecord ri i) .pattern)
-    some-or-none (inl u) = no-points (u .no-points)
-    some-or-none (inr p) = some-points p
-
-    by-returns : (k : Kind) → ReturnsOk k b (rightOf ri i) → PointsOk t pa ri i points ((rightRecord ri i) .pattern)
-    by-returns direct o = some-or-none o
-    by-returns project o = some-or-none o
-    by-returns instream o = no-points o
-    by-returns storage o = no-points o
-
-    pub points-ok : PointsOk t pa ri i points ((rightRecord ri i) .pattern)
-    points-ok = by-returns ((rightOf ri i) .kind) (right-good .returns-ok)
+    pub points-ok : PointsOk pa ri i points ((rightRecord ri i) .pattern)
+    points-ok = by-points _ no-points some-points
 
     -- the pattern that its points share is the rules'
     pub pattern-same : 0 < points → patternOf b (rightOf ri i) ≡ getD pa ((rightRecord ri i) .pattern) []
-    pattern-same h = go ((rightOf ri i) .kind) (right-good .returns-ok)
-      where
-        none : (rightOf ri i) .points ≡ [] → patternOf b (rightOf ri i) ≡ getD pa ((rightRecord ri i) .pattern) []
-        none e = let z : points ≡ 0 = sym points-count ∙ ap length e in absurd (omega arith)
-
-        some : Unreturned (rightOf ri i) ⊎ Returned b (rightOf ri i) → patternOf b (rightOf ri i) ≡ getD pa ((rightRecord ri i) .pattern) []
-        some (inl u) = none (u .no-points)
-        some (inr p) = ap (λ (k : ℕ). getD (b .patterns) k []) pattern-is ∙ w .patterns _ (omega (arith, p .pattern-in, pattern-is))
-
-        go : (k : Kind) → ReturnsOk k b (rightOf ri i) → patternOf b (rightOf ri i) ≡ getD pa ((rightRecord ri i) .pattern) []
-        go direct o = some o
-        go project o = some o
-        go instream o = none o
-        go storage o = none o
+    pattern-same h = by-points (patternOf b (rightOf ri i) ≡ getD pa ((rightRecord ri i) .pattern) [])
+        (λ e. let z : points ≡ 0 = sym points-count ∙ ap length e in absurd (omega arith))
+        (λ p. ap (λ (k : ℕ). getD (b .patterns) k []) pattern-is ∙ w .patterns _ (omega (arith, p .pattern-in, pattern-is)))
 
     -- ---- its efficiency, of kinds 1 and 2
 

@@ -13,7 +13,7 @@ use lib.Seq.{getD-set-same, getD-set-other}
 use Rattle.general.proofs.Lists.{getD-map-in}
 use Rattle.general.proofs.Tables.{tab-length}
 use Rattle.general.proofs.Tests.{by-eqb}
-use Rattle.rules.specs.Basin.{Right, Basin, noRight, rows, reservoirAt, rightAt, patternOf}
+use Rattle.rules.specs.Basin.{Right, Basin, noRight, reservoirAt, rightAt, patternOf}
 use Rattle.rules.specs.Returns.{returnedAt, partsOf}
 use Rattle.rules.specs.Turn.{State, Grant, granted, Turn, turn}
 use Rattle.rules.specs.Month.{turns, afterTurns, grantsOf, returnedBy, returnsAt, reasonNumber, isShort, shortCount}
@@ -27,7 +27,7 @@ use Rattle.turns.specs.State.{storagesOf, marksOf, takenOf, stateOf, Set
 use Rattle.turns.specs.Lines.{lineOf, shortOne, CanLine, LineServed, noGrant, grantAt, LinesTo, turnsFrom, ServedTo, Served}
 use Rattle.turns.proofs.Places.{storage-at, taken-at}
 use Rattle.turns.proofs.Keeping.{kept-none, kept-on}
-use Rattle.turns.proofs.Facts.{rows-t, rights-count, right-is}
+use Rattle.turns.proofs.Facts.{rights-count, right-is}
 
 -- ---- lists from a place on
 
@@ -194,7 +194,7 @@ module _ (b : Basin) (st t rs : List ℕ) (pa : List (List ℕ)) (ri : List ℕ)
   abbrev all : List Turn
   all = turnsFrom b m (stateOf b f a sh bd)
 
-  pub served-none : Within b bd → ((u : ℕ) → u < rows b → getD a u 0 ≤ getD f u 0) → ServedTo b m 0 f a sh bd rp f a sh bd rp 0
+  pub served-none : Within b bd → ((u : ℕ) → u < 64 → getD a u 0 ≤ getD f u 0) → ServedTo b m 0 f a sh bd rp f a sh bd rp 0
   served-none h u = record {
     left = refl;
     state = refl;
@@ -298,7 +298,7 @@ module _ (b : Basin) (st t rs : List ℕ) (pa : List (List ℕ)) (ri : List ℕ)
     served-more = subst (λ (n : ℕ). ServedTo b m n f a sh bd rp f″ a″ sh″ bd″ rp″ (c + d)) (omega arith) served-suc
 
   -- the next right may be served
-  pub line-ready : m < 12 → RiverOk t f a 1000000000000000000 → BoardOk bd 1000000000000000000 → length t ≤ length sh → 4 * rightCount ri ≤ length rp → (k : ℕ) → k < rightCount ri
+  pub line-ready : m < 12 → RiverOk t f a 1000000000000000000 → BoardOk bd 1000000000000000000 → 64 ≤ length sh → 4 * rightCount ri ≤ length rp → (k : ℕ) → k < rightCount ri
       → (f′ a′ : List ℕ) (sh′ : List Bool) (bd′ rp′ : List ℕ) (c : ℕ) → ServedTo b m k f a sh bd rp f′ a′ sh′ bd′ rp′ c → CanLine st t rs pa ri k m f′ a′ sh′ bd′ rp′
   line-ready hm river board marks lines k hk f′ a′ sh′ bd′ rp′ c p =
       let few : k < 256 = omega (arith, hk, rights-count b st t rs pa ri w, w .accepted .few-rights) in
@@ -310,11 +310,10 @@ module _ (b : Basin) (st t rs : List ℕ) (pa : List (List ℕ)) (ri : List ℕ)
           in-year = hm;
           river = record {
             downhill = river .downhill;
-            few = river .few;
             places = omega (arith, river .places, p .flow-size);
             places₂ = omega (arith, river .places₂, p .available-size);
-            room = λ u o. omega (arith, few, river .room u o, p .grown u (omega (arith, o, rows-t b st t rs pa ri w)));
-            within = λ u o. p .within u (omega (arith, o, rows-t b st t rs pa ri w));
+            room = λ u o. omega (arith, few, river .room u o, p .grown u o);
+            within = p .within;
           };
           board = record { size = p .size ∙ board .size; room = record { room = λ j. omega (arith, few, board .room .room j, p .filled j) } };
           marks = omega (arith, marks, p .short-size);
@@ -337,7 +336,10 @@ module _ (b : Basin) (st t rs : List ℕ) (pa : List (List ℕ)) (ri : List ℕ)
         month = p .month;
         lines = subst (λ (n : ℕ). LinesTo all n rp rp′) (e ∙ sym (rights-count b st t rs pa ri w)) (p .lines);
         size = p .size;
-        within = p .within;
+        flow-size = p .flow-size;
+        available-size = p .available-size;
+        short-size = p .short-size;
+        within = λ u o. p .within u (omega (arith, o, w .accepted .few-rows));
         filled = λ j. omega (arith, p .filled j, e, rights-count b st t rs pa ri w, w .accepted .few-rights);
         capped = p .capped;
         kept = p .kept;

@@ -7,7 +7,7 @@ use Prim.Native.Nat.{ℕ, zero, suc, _+_, _*_, _≤_, _<_, min}
 use native.Mathlib.Nat.{le-trans, le-refl}
 use native.Mathlib.Omega.{arith}
 use lib.Dec.{ltb, eqb}
-use lib.ListN.{length, getD}
+use lib.ListN.{getD}
 use Rattle.general.specs.Tests.{has}
 use Rattle.general.proofs.Search.{has-head, has-tail, has-other, has-none}
 use Rattle.general.proofs.Tables.{tab-at}
@@ -18,9 +18,10 @@ use Rattle.basin.specs.Bytes.{le32At}
 use Rattle.basin.specs.Records.{rowsOf, stationRecord, stationOf, stationsOf}
 use Rattle.river.specs.declared.Seen.{Seen}
 use Rattle.river.specs.declared.Seen.the-variants as seen
-use Rattle.river.specs.Table.{pathBy}
-use Rattle.river.specs.Arrays.{seenOn, CanLook}
-use Rattle.river.proofs.Table.{by-in, by-self}
+use Rattle.basin.specs.Table.{pathBy}
+use Rattle.river.specs.Arrays.{seenOn}
+use Rattle.basin.proofs.Table.{by-self}
+use Rattle.river.proofs.Table.{by-in}
 use Rattle.turns.specs.declared.grants.Reason.{Reason}
 use Rattle.turns.specs.declared.grants.Reason.the-variants.{Met, Called, RiverLow, StorageOut}
 use Rattle.turns.specs.Grants.{CanSee, seenBy, partOf, reasonOf, RiverGave}
@@ -92,19 +93,25 @@ seen-low sh a low (x ∷ p) q e = go (getD sh x false) refl (λ l. seen-low sh a
 
 -- ---- at the right's own row
 
-module _ (st t a : List ℕ) (sh : List Bool) (row : ℕ) (o : CanSee st t a sh row) where
-  pub can-look : CanLook t row row sh a
-  can-look = record { row-ok = record { downhill = o .downhill; on = o .on; places = o .places }; marks = o .marks; low-on = o .on }
+pub own-in : (st t : List ℕ) (row : ℕ) → CanSee st t row → row < rowsOf st
+own-in st t row o = o .stationed row (by-self t (o .row-ok .downhill) row (o .row-ok .on))
 
-  pub called-in : (q : ℕ) → seenOn sh a row (pathBy t row) ≡ seen.Called q → q < length t
-  called-in q e = by-in t (o .downhill) row (o .on) q (seen-called sh a row (pathBy t row) q e .0)
+module _ (st t a : List ℕ) (sh : List Bool) (row : ℕ) (o : CanSee st t row) where
+  pub called-in : (q : ℕ) → seenOn sh a row (pathBy t row) ≡ seen.Called q → q < rowsOf st
+  called-in q e = o .stationed q (seen-called sh a row (pathBy t row) q e .0)
 
-  pub low-in : (q : ℕ) → seenOn sh a row (pathBy t row) ≡ seen.Low q → q < length t
-  low-in q e = place ((seen-low sh a row (pathBy t row) q e) .on)
+  low-path : (q : ℕ) → seenOn sh a row (pathBy t row) ≡ seen.Low q → has q (pathBy t row) ≡ true
+  low-path q e = place ((seen-low sh a row (pathBy t row) q e) .on)
     where
-      place : (q ≡ row) ⊎ (has q (pathBy t row) ≡ true) → q < length t
-      place (inl z) = rw z (o .on)
-      place (inr h) = by-in t (o .downhill) row (o .on) q h
+      place : (q ≡ row) ⊎ (has q (pathBy t row) ≡ true) → has q (pathBy t row) ≡ true
+      place (inl z) = rw z (by-self t (o .row-ok .downhill) row (o .row-ok .on))
+      place (inr h) = h
+
+  pub low-in : (q : ℕ) → seenOn sh a row (pathBy t row) ≡ seen.Low q → q < rowsOf st
+  low-in q e = o .stationed q (low-path q e)
+
+  pub low-on : (q : ℕ) → seenOn sh a row (pathBy t row) ≡ seen.Low q → q < 64
+  low-on q e = by-in t (o .row-ok .downhill) row (o .row-ok .on) q (low-path q e)
 
 -- ---- what the code answers
 

@@ -11,14 +11,13 @@ use Rattle.rules.specs.Turn.{State, called, Reason, met, calledOut, riverLow, s
 use Rattle.rules.specs.Month.{reasonNumber}
 use Rattle.rules.specs.Accepted.{ReservoirOk}
 use Rattle.basin.specs.Records.{stationsOf, rowsOf, reservoirCount, rightCount, rightRecord, rightOf}
-use Rattle.basin.proofs.Rows.{rows-are}
 use Rattle.turns.specs.declared.grants.Reason.{Reason as ReasonMade}
 use Rattle.turns.specs.declared.grants.Reason.the-variants.{Met, Called, RiverLow, StorageOut}
 use Rattle.turns.specs.declared.grants.Grant.{Grant as GrantMade}
 use Rattle.turns.specs.Stages.{homeRow}
 use Rattle.turns.specs.State.{Setting, whyOf, namedBy, homeOf, Tells}
 use Rattle.turns.specs.Lines.{homeNumber, CanName}
-use Rattle.turns.proofs.Facts.{rows-t, reservoirs-count, home-is, home-in, right-good, reservoir-of}
+use Rattle.turns.proofs.Facts.{rows-st, reservoirs-count, home-is, home-in, right-good, reservoir-of}
 
 -- only a project right is short of storage
 reservoir-there : (k : Kind) (b : Basin) (r : Right) (c z : Bool) → ReservoirOk k b r → reasonNumber (cond z (shortage k c) met) ≡ 3 → r .reservoir < length (b .reservoirs)
@@ -44,7 +43,7 @@ module _ (b : Basin) (st t rs : List ℕ) (pa : List (List ℕ)) (ri : List ℕ)
   pub can-name : (m : ℕ) (s : State) (made : GrantMade) → Tells ((turn b m i r s) .grant) (homeOf b r) made → CanName st rs v (made .reason)
   can-name m s made t₀ e =
       let h : v < reservoirCount rs = omega (arith, storage-given-out m s (sym (t₀ .reason) ∙ e), reservoirs-count b st t rs pa ri w, reservoir-of b st t rs pa ri w i hi) in
-      (h, omega (arith, home-in b st t rs pa ri w v h, rows-t b st t rs pa ri w, rows-are st, ap (λ (l : List Station). length l) (w .stations)))
+      (h, omega (arith, home-in b st t rs pa ri w v h, rows-st b st t rs pa ri w))
 
   home-number : v < reservoirCount rs → homeNumber st rs v ≡ homeOf b r
   home-number h =

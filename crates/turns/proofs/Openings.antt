@@ -14,15 +14,16 @@ use Rattle.general.proofs.Sums.{sumTo-same}
 use Rattle.general.proofs.Tables.{tab-length, tab-at, tab-same}
 use Rattle.rules.specs.Basin.{Basin, rows}
 use Rattle.rules.specs.Path.{path}
-use Rattle.rules.specs.River.{Level, along, returned}
+use Rattle.rules.specs.River.{Level, returned}
 use Rattle.rules.specs.Month.{gathered, openingLevels}
-use Rattle.river.specs.Table.{pathBy}
-use Rattle.river.specs.Arrays.{levelsOf, level, rowLevel, CanReturn}
+use Rattle.basin.specs.Table.{pathBy}
+use Rattle.river.specs.Arrays.{levelsOf, level, rowLevel, CanReturn, Walked}
 use Rattle.river.proofs.Levels.{returned-read}
-use Rattle.turns.specs.Returning.{dueIn}
+use Rattle.river.proofs.Table.{by-in}
+use Rattle.turns.specs.Returning.{dueIn, RiverOk}
 use Rattle.turns.specs.State.{Setting}
 use Rattle.turns.specs.Opening.{mostInflow, inflow, sentTo, CanGather, Gathered, openedAt, openedBoard}
-use Rattle.turns.proofs.Facts.{rows-t, path-is}
+use Rattle.turns.proofs.Facts.{path-is}
 
 sent-none : (t runoff bd : List ℕ) (i : ℕ) → sentTo t runoff bd 0 i ≡ 0
 unfolding sentTo sumTo
@@ -46,21 +47,24 @@ module _ (t runoff bd f₀ a₀ : List ℕ) (c : CanGather t runoff bd f₀ a₀
   gathered-none = record {
     flow = λ i h. c .empty i ∙ sym (sent-none t runoff bd i);
     available = λ i h. c .empty₂ i ∙ sym (sent-none t runoff bd i);
+    places = c .places;
+    places₂ = c .places₂;
   }
 
-  module _ (k : ℕ) (hk : k < length t) (f a : List ℕ) (fs : length f ≡ length f₀) (gs : length a ≡ length a₀) (g : Gathered t runoff bd k f a) (d : ℕ) (e : d ≡ inflow runoff bd k) where
-    fits : (l : List ℕ) → ((i : ℕ) → i < length t → getD l i 0 ≡ sentTo t runoff bd k i) → (i : ℕ) → i < length t → getD l i 0 + d < 18446744073709551616
-    fits l s i h = omega (arith, s i h, e, c .small k, c .few, hk, sent-most t runoff bd (c .small) k i)
+  module _ (k : ℕ) (hk : k < 64) (f a : List ℕ) (g : Gathered t runoff bd k f a) (d : ℕ) (e : d ≡ inflow runoff bd k) where
+    fits : (l : List ℕ) → ((i : ℕ) → i < 64 → getD l i 0 ≡ sentTo t runoff bd k i) → (i : ℕ) → has i (pathBy t k) ≡ true → getD l i 0 + d < 18446744073709551616
+    fits l s i h = omega (arith, s i (by-in t (c .downhill) k hk i h), e, c .small k, hk, sent-most t runoff bd (c .small) k i)
 
-    pub can-send : ((w : ℕ) → has w (pathBy t k) ≡ true → w < length t) → CanReturn t k d f a
-    can-send on = record {
-      row-ok = record { downhill = c .downhill; on = hk; places = omega (arith, c .places, fs) };
-      places = omega (arith, c .places₂, gs);
-      flows = record { fits = λ w h. fits f (g .flow) w (on w h) };
-      availables = record { fits = λ w h. fits a (g .available) w (on w h) };
+    pub can-send : CanReturn t k d f a
+    can-send = record {
+      row-ok = record { downhill = c .downhill; on = hk };
+      places = g .places;
+      places₂ = g .places₂;
+      flows = record { fits = fits f (g .flow) };
+      availables = record { fits = fits a (g .available) };
     }
 
-    pub gathered-more : (f′ a′ : List ℕ) → levelsOf (length t) f′ a′ ≡ along (returned d) (pathBy t k) (levelsOf (length t) f a) → Gathered t runoff bd (k + 1) f′ a′
+    pub gathered-more : (f′ a′ : List ℕ) → Walked (returned d) (pathBy t k) f a f′ a′ → Gathered t runoff bd (k + 1) f′ a′
     gathered-more f′ a′ z = subst (λ (n : ℕ). Gathered t runoff bd n f′ a′) (omega arith) step
       where
         sent : (i : ℕ) → sentTo t runoff bd (suc k) i ≡ sentTo t runoff bd k i + only (has i (pathBy t k)) d
@@ -68,27 +72,39 @@ module _ (t runoff bd f₀ a₀ : List ℕ) (c : CanGather t runoff bd f₀ a₀
 
         step : Gathered t runoff bd (suc k) f′ a′
         step = record {
-          flow = λ i h. returned-read (length t) d (pathBy t k) f a f′ a′ z i h .0 ∙ ap (λ (x : ℕ). x + only (has i (pathBy t k)) d) (g .flow i h) ∙ sym (sent i);
-          available = λ i h. returned-read (length t) d (pathBy t k) f a f′ a′ z i h .1 ∙ ap (λ (x : ℕ). x + only (has i (pathBy t k)) d) (g .available i h) ∙ sym (sent i);
+          flow = λ i h. returned-read 64 d (pathBy t k) f a f′ a′ (z .levels 64) i h .0 ∙ ap (λ (x : ℕ). x + only (has i (pathBy t k)) d) (g .flow i h) ∙ sym (sent i);
+          available = λ i h. returned-read 64 d (pathBy t k) f a f′ a′ (z .levels 64) i h .1 ∙ ap (λ (x : ℕ). x + only (has i (pathBy t k)) d) (g .available i h) ∙ sym (sent i);
+          places = omega (arith, g .places, z .flow-size);
+          places₂ = omega (arith, g .places₂, z .available-size);
         }
+
+  -- what is gathered leaves room for every turn of the month
+  pub gathered-river : (f a : List ℕ) → Gathered t runoff bd (length runoff) f a → RiverOk t f a 1000000000000000000
+  gathered-river f a g = record {
+    downhill = c .downhill;
+    places = g .places;
+    places₂ = g .places₂;
+    room = λ i h. omega (arith, g .flow i h, sent-most t runoff bd (c .small) (length runoff) i, c .sheet);
+    within = λ i h. omega (arith, g .flow i h, g .available i h);
+  }
 
 -- ---- the rules' opening
 
-module _ (b : Basin) (st t rs : List ℕ) (pa : List (List ℕ)) (ri : List ℕ) (w : Setting b st t rs pa ri) (runoff bd : List ℕ) where
-  sent-gathered : (i : ℕ) → i < rows b → sentTo t runoff bd (length t) i ≡ gathered b runoff (tab (rows b) (λ u. dueIn bd u 0)) i
+module _ (b : Basin) (st t rs : List ℕ) (pa : List (List ℕ)) (ri : List ℕ) (w : Setting b st t rs pa ri) (runoff bd : List ℕ) (sheet : length runoff ≡ rows b) where
+  sent-gathered : (i : ℕ) → i < rows b → sentTo t runoff bd (length runoff) i ≡ gathered b runoff (tab (rows b) (λ u. dueIn bd u 0)) i
   unfolding sentTo gathered
   sent-gathered i h =
-      ap (λ (n : ℕ). sumTo n (λ j. only (has i (pathBy t j)) (inflow runoff bd j))) (rows-t b st t rs pa ri w)
+      ap (λ (n : ℕ). sumTo n (λ j. only (has i (pathBy t j)) (inflow runoff bd j))) sheet
       ∙ sumTo-same (rows b) (λ j. only (has i (pathBy t j)) (inflow runoff bd j)) (λ j. only (has i (path (b .stations) j)) (getD runoff j 0 + getD (tab (rows b) (λ u. dueIn bd u 0)) j 0))
       (λ j o.
-      ap (λ (p : List ℕ). only (has i p) (inflow runoff bd j)) (path-is b st t rs pa ri w j (omega (arith, o, rows-t b st t rs pa ri w)))
+      ap (λ (p : List ℕ). only (has i p) (inflow runoff bd j)) (path-is b st t rs pa ri w j o)
       ∙ ap (λ (x : ℕ). only (has i (path (b .stations) j)) (getD runoff j 0 + x)) (ap (λ (q : ℕ). getD bd q 0) (omega arith) ∙ sym (tab-at (λ u. dueIn bd u 0) (rows b) j 0 o)))
 
-  pub opening-is : (f a : List ℕ) → Gathered t runoff bd (length t) f a → levelsOf (rows b) f a ≡ openingLevels b runoff (tab (rows b) (λ u. dueIn bd u 0))
+  pub opening-is : (f a : List ℕ) → Gathered t runoff bd (length runoff) f a → levelsOf (rows b) f a ≡ openingLevels b runoff (tab (rows b) (λ u. dueIn bd u 0))
   unfolding levelsOf openingLevels
   opening-is f a g = tab-same (rows b) _ _
       (λ i h.
-      let o : i < length t = omega (arith, h, rows-t b st t rs pa ri w) in
+      let o : i < 64 = omega (arith, h, w .accepted .few-rows) in
       ap (λ (x : ℕ). level x (getD a i 0)) (g .flow i o ∙ sent-gathered i h) ∙ ap (λ (x : ℕ). level (gathered b runoff (tab (rows b) (λ u. dueIn bd u 0)) i) x) (g .available i o ∙ sent-gathered i h))
 
 -- ---- the board as a month opens

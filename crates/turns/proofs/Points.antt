@@ -7,7 +7,7 @@ use native.Mathlib.Numerals.{add-one}
 use native.Mathlib.Omega.{arith}
 use native.Mathlib.Decide.{decLt}
 use lib.Dec.{eqb}
-use lib.ListN.{length, getD}
+use lib.ListN.{getD}
 use Rattle.general.specs.Sums.{sumOver, sum, sumTo, only}
 use Rattle.general.specs.Tables.{tab}
 use Rattle.general.specs.Tests.{has}
@@ -16,10 +16,10 @@ use Rattle.general.proofs.Tests.{by-eqb, only-le}
 use Rattle.rules.specs.River.{Level, along, returned}
 use Rattle.rules.specs.Returns.{shares, Part, lagged, returnedAt}
 use Rattle.basin.specs.Records.{returnRow, returnPercent}
-use Rattle.river.specs.Table.{pathBy}
-use Rattle.river.specs.Arrays.{levelsOf, Room, OnRow, CanReturn}
+use Rattle.basin.specs.Table.{pathBy}
+use Rattle.river.specs.Arrays.{levelsOf, Room, CanReturn, Walked}
 use Rattle.river.proofs.Table.{by-in}
-use Rattle.river.proofs.Levels.{returned-read}
+use Rattle.river.proofs.Levels.{change-idle, returned-read, returned-zero}
 use Rattle.turns.specs.Dues.{mostAmount, roomy, Roomy, Whole, CanSplit, Lagged}
 use Rattle.turns.specs.Returning.{dueIn, pointsUpTo, partIn, partsIn, returnBy, RiverOk, BoardOk, PointsOk, CanGive, Gave}
 use Rattle.turns.proofs.Shares.{lagged-le, share-le}
@@ -70,29 +70,34 @@ lagged-is pattern s q = refl
 
 -- ---- what one put back does to each row
 
-module _ (t f a : List ℕ) (d row : ℕ) (o : RiverOk t f a (roomy + roomy)) (h : row < length t) (m : d ≤ roomy) where
+module _ (t f a : List ℕ) (d row : ℕ) (o : RiverOk t f a (roomy + roomy)) (h : row < 64) (m : d ≤ roomy) where
   pub can-return : CanReturn t row d f a
   can-return = record {
-    row-ok = record { downhill = o .downhill; on = h; places = o .places };
-    places = o .places₂;
+    row-ok = record { downhill = o .downhill; on = h };
+    places = o .places;
+    places₂ = o .places₂;
     flows = record { fits = λ k e. omega (arith, o .room k (by-in t (o .downhill) row h k e)) };
     availables = record { fits = λ k e. omega (arith, o .room k (by-in t (o .downhill) row h k e), o .within k (by-in t (o .downhill) row h k e)) };
   }
 
-module _ (t f a f′ a′ : List ℕ) (d row : ℕ) (e : levelsOf (length t) f′ a′ ≡ along (returned d) (pathBy t row) (levelsOf (length t) f a)) where
-  pub put-grown : (w : ℕ) → w < length t → getD f′ w 0 ≤ getD f w 0 + d
-  put-grown w h = omega (arith, returned-read (length t) d (pathBy t row) f a f′ a′ e w h .0, only-le (has w (pathBy t row)) d)
+module _ (f a : List ℕ) (p : List ℕ) (d : ℕ) where
+  pub put-nothing : d ≡ 0 → Walked (returned d) p f a f a
+  put-nothing e = record { levels = λ n. rw e (change-idle n (returned 0) p f a returned-zero); flow-size = refl; available-size = refl }
 
-  pub put-within : (w : ℕ) → w < length t → getD a w 0 ≤ getD f w 0 → getD a′ w 0 ≤ getD f′ w 0
-  put-within w h l = omega (arith, returned-read (length t) d (pathBy t row) f a f′ a′ e w h)
+  module _ (f′ a′ : List ℕ) (e : Walked (returned d) p f a f′ a′) where
+    pub put-grown : (w : ℕ) → w < 64 → getD f′ w 0 ≤ getD f w 0 + d
+    put-grown w h = omega (arith, returned-read 64 d p f a f′ a′ (e .levels 64) w h .0, only-le (has w p) d)
+
+    pub put-within : (w : ℕ) → w < 64 → getD a w 0 ≤ getD f w 0 → getD a′ w 0 ≤ getD f′ w 0
+    put-within w h l = omega (arith, returned-read 64 d p f a f′ a′ (e .levels 64) w h)
 
 -- ---- the loop
 
 module _ (t pattern ri : List ℕ) (i rest : ℕ) (f a bd : List ℕ) where
-  pub gave-none : ((w : ℕ) → w < length t → getD a w 0 ≤ getD f w 0) → Gave t pattern ri i 0 rest f a bd f a bd
+  pub gave-none : ((w : ℕ) → w < 64 → getD a w 0 ≤ getD f w 0) → Gave t pattern ri i 0 rest f a bd f a bd
   unfolding partsIn tab returnBy returnedAt sumOver
   gave-none h = record {
-    levels = refl;
+    levels = λ h. refl;
     dues = λ w k l. omega arith;
     same = λ j l. refl;
     size = refl;
@@ -108,7 +113,6 @@ module _ (t pattern ri : List ℕ) (i rest : ℕ) (f a bd : List ℕ) where
     pub river-after : RiverOk t f a roomy → RiverOk t f₁ a₁ (roomy + roomy)
     river-after o = record {
       downhill = o .downhill;
-      few = o .few;
       places = omega (arith, o .places, w .flow-size);
       places₂ = omega (arith, o .places₂, w .available-size);
       room = λ x l. omega (arith, w .grown x l, o .room x l);
@@ -117,17 +121,17 @@ module _ (t pattern ri : List ℕ) (i rest : ℕ) (f a bd : List ℕ) where
 
     module _ (q : Part) (at-once d : ℕ) (f₂ a₂ bd₂ : List ℕ) (part : q ≡ partIn ri i rest k) (whole : sum pattern ≡ 100) (row-in : q .row < 64) (small : q .amount ≤ mostAmount)
         (now-is : at-once ≡ getD (shares (q .amount) pattern) 0 0) (split : Lagged pattern (q .amount) (266 + 11 * q .row) 11 bd₁ bd₂)
-        (back : levelsOf (length t) f₂ a₂ ≡ along (returned at-once) (pathBy t (q .row)) (levelsOf (length t) f₁ a₁)) (fs : length f₂ ≡ length f₁) (gs : length a₂ ≡ length a₁) where
+        (back : Walked (returned at-once) (pathBy t (q .row)) f₁ a₁ f₂ a₂) where
       once-le : at-once ≤ mostAmount
       once-le = omega (arith, now-is, share-le (q .amount) pattern 0 whole, small)
 
-      levels-more : levelsOf (length t) f₂ a₂ ≡ returnBy t pattern (partsIn ri i rest (k + 1)) (levelsOf (length t) f a)
-      levels-more =
-          back
-          ∙ ap (λ (x : ℕ). along (returned x) (pathBy t (q .row)) (levelsOf (length t) f₁ a₁)) (now-is ∙ lagged-is pattern 0 q)
-          ∙ ap (λ (l : List Level). along (returned (lagged pattern 0 q)) (pathBy t (q .row)) l) (w .levels)
-          ∙ sym (return-more t pattern (partsIn ri i rest k) q (levelsOf (length t) f a))
-          ∙ ap (λ (qs : List Part). returnBy t pattern qs (levelsOf (length t) f a)) (ap (λ (x : Part). partsIn ri i rest k ++ (x ∷ [])) part ∙ sym (parts-more ri i rest k))
+      levels-more : (h : ℕ) → levelsOf h f₂ a₂ ≡ returnBy t pattern (partsIn ri i rest (k + 1)) (levelsOf h f a)
+      levels-more h =
+          back .levels h
+          ∙ ap (λ (x : ℕ). along (returned x) (pathBy t (q .row)) (levelsOf h f₁ a₁)) (now-is ∙ lagged-is pattern 0 q)
+          ∙ ap (λ (l : List Level). along (returned (lagged pattern 0 q)) (pathBy t (q .row)) l) (w .levels h)
+          ∙ sym (return-more t pattern (partsIn ri i rest k) q (levelsOf h f a))
+          ∙ ap (λ (qs : List Part). returnBy t pattern qs (levelsOf h f a)) (ap (λ (x : Part). partsIn ri i rest k ++ (x ∷ [])) part ∙ sym (parts-more ri i rest k))
 
       -- the dues of the point's row grow, the others stay
       due-grown : (v s : ℕ) → s < 11 → dueIn bd₂ v s ≡ dueIn bd₁ v s + only (eqb (q .row) v) (lagged pattern (suc s) q)
@@ -151,9 +155,9 @@ module _ (t pattern ri : List ℕ) (i rest : ℕ) (f a bd : List ℕ) where
         );
         same = λ j l. split .under j (omega arith) ∙ w .same j l;
         size = split .size ∙ w .size;
-        flow-size = fs ∙ w .flow-size;
-        available-size = gs ∙ w .available-size;
-        grown = λ x l. omega (arith, put-grown t f₁ a₁ f₂ a₂ at-once (q .row) back x l, w .grown x l, once-le);
-        within = λ x l. put-within t f₁ a₁ f₂ a₂ at-once (q .row) back x l (w .within x l);
+        flow-size = back .flow-size ∙ w .flow-size;
+        available-size = back .available-size ∙ w .available-size;
+        grown = λ x l. omega (arith, put-grown f₁ a₁ (pathBy t (q .row)) at-once f₂ a₂ back x l, w .grown x l, once-le);
+        within = λ x l. put-within f₁ a₁ (pathBy t (q .row)) at-once f₂ a₂ back x l (w .within x l);
         filled = λ j. omega (arith, lagged-le pattern (q .amount) (266 + 11 * q .row) bd₁ 11 bd₂ whole split j, w .filled j, small);
       }

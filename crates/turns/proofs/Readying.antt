@@ -14,23 +14,24 @@ use Rattle.general.specs.Sums.{only}
 use Rattle.general.specs.Tests.{has}
 use Rattle.general.proofs.Signed.{up, dn, lower-law}
 use Rattle.general.proofs.Tests.{absurd-bool, by-eqb, eq-of, eqb-other, only-le}
-use Rattle.rules.specs.Basin.{Reservoir, Kind, direct, project, instream, storage, Right, Basin, rows, reservoirAt, rightAt}
+use Rattle.rules.specs.Basin.{Reservoir, Kind, direct, project, instream, storage, Right, Basin, reservoirAt, rightAt}
 use Rattle.rules.specs.River.{Level, levelAt, along, diverted, reserved, released}
 use Rattle.rules.specs.Turn.{bit}
 use Rattle.basin.specs.Records.{rowsOf, reservoirCount, rightCount, rightRecord, kindOf, rightOf}
 use Rattle.river.specs.declared.Seen.{Seen}
 use Rattle.river.specs.declared.Seen.the-variants as seen
-use Rattle.river.specs.Table.{pathBy}
-use Rattle.river.specs.Arrays.{levelsOf, seenOn, OnRow, Enough, Room, CanDivert, CanRelease, rowLevel}
+use Rattle.basin.specs.Table.{pathBy}
+use Rattle.river.specs.Arrays.{levelsOf, seenOn, Enough, Room, CanDivert, CanRelease, rowLevel}
 use Rattle.river.proofs.Levels.{change-read, diverted-read, released-read, levels-at}
-use Rattle.river.proofs.Table.{by-in, by-self}
+use Rattle.basin.proofs.Table.{by-self}
+use Rattle.river.proofs.Table.{by-in}
 use Rattle.turns.specs.Dues.{mostAmount, roomy, Roomy}
 use Rattle.turns.specs.Grants.{CanSee, seenBy, partOf}
 use Rattle.turns.specs.Returning.{RiverOk, BoardOk}
 use Rattle.turns.specs.Finish.{CanFinish}
 use Rattle.turns.specs.State.{Setting, Within}
 use Rattle.turns.specs.Stages.{isStorage, askIn, RoomLeft, CanAsk, levelsTaken, CanTake, capacityIn, poured, boardStored, CanFill, drawnIn, boardDrawn, levelsReleased, homeRow, CanDraw}
-use Rattle.turns.proofs.Facts.{rows-t, rows-st, few, downhill, reservoirs-count, rights-count, right-is, capacity-is, home-in, right-good, place-most, kind-is, limit-is, row-in, efficiency-is, points-ok, project-behind, storage-behind}
+use Rattle.turns.proofs.Facts.{rows-st, few, path-in, reservoirs-count, rights-count, right-is, capacity-is, home-in, right-good, place-most, kind-is, limit-is, row-in, row-on, efficiency-is, points-ok, project-behind, storage-behind}
 use Rattle.turns.proofs.Looks.{seen-low}
 use Rattle.turns.proofs.Places.{poured-size, poured-grown, poured-other}
 use Rattle.turns.proofs.RightKinds.{by-kind, kind-project, not-project}
@@ -52,21 +53,21 @@ reserved-read n d q f a f′ a′ e w h = go (has w q) (change-read n (reserved 
 same-flow : (n : ℕ) (f a f′ : List ℕ) → levelsOf n f′ a ≡ levelsOf n f a → (w : ℕ) → w < n → getD f′ w 0 ≡ getD f w 0
 same-flow n f a f′ e w h = ap up (ap (λ (x : Level). x .flow) (sym (levels-at n f′ a w h) ∙ ap (λ (l : List Level). levelAt l w) e ∙ levels-at n f a w h))
 
-pub taken-read : (k : Kind) (d : ℕ) (t : List ℕ) (row : ℕ) (f a f′ a′ : List ℕ) → levelsOf (length t) f′ a′ ≡ levelsTaken k d t row (levelsOf (length t) f a) → (w : ℕ) → w < length t
+pub taken-read : (n : ℕ) (k : Kind) (d : ℕ) (t : List ℕ) (row : ℕ) (f a f′ a′ : List ℕ) → levelsOf n f′ a′ ≡ levelsTaken k d t row (levelsOf n f a) → (w : ℕ) → w < n
     → (getD f′ w 0 ≤ getD f w 0) × (getD a w 0 ≤ getD f w 0 → getD a′ w 0 ≤ getD f′ w 0)
 unfolding levelsTaken
-taken-read direct d t row f a f′ a′ e w h = let z = diverted-read (length t) d (pathBy t row) f a f′ a′ e w h in (omega (arith, z .0), λ l. omega (arith, z))
-taken-read project d t row f a f′ a′ e w h = let z = diverted-read (length t) d (pathBy t row) f a f′ a′ e w h in (omega (arith, z .0), λ l. omega (arith, z))
-taken-read instream d t row f a f′ a′ e w h = let z = reserved-read (length t) d (row ∷ []) f a f′ a′ e w h in (omega (arith, z .0), λ l. omega (arith, z))
-taken-read storage d t row f a f′ a′ e w h = let z = diverted-read (length t) d (pathBy t row) f a f′ a′ e w h in (omega (arith, z .0), λ l. omega (arith, z))
+taken-read n direct d t row f a f′ a′ e w h = let z = diverted-read n d (pathBy t row) f a f′ a′ e w h in (omega (arith, z .0), λ l. omega (arith, z))
+taken-read n project d t row f a f′ a′ e w h = let z = diverted-read n d (pathBy t row) f a f′ a′ e w h in (omega (arith, z .0), λ l. omega (arith, z))
+taken-read n instream d t row f a f′ a′ e w h = let z = reserved-read n d (row ∷ []) f a f′ a′ e w h in (omega (arith, z .0), λ l. omega (arith, z))
+taken-read n storage d t row f a f′ a′ e w h = let z = diverted-read n d (pathBy t row) f a f′ a′ e w h in (omega (arith, z .0), λ l. omega (arith, z))
 
-pub release-read : (k : Kind) (x : ℕ) (t : List ℕ) (home row : ℕ) (f a f′ : List ℕ) → levelsOf (length t) f′ a ≡ levelsReleased k x t home row (levelsOf (length t) f a) → (w : ℕ) → w < length t
+pub release-read : (n : ℕ) (k : Kind) (x : ℕ) (t : List ℕ) (home row : ℕ) (f a f′ : List ℕ) → levelsOf n f′ a ≡ levelsReleased k x t home row (levelsOf n f a) → (w : ℕ) → w < n
     → (getD f′ w 0 ≤ getD f w 0 + x) × (getD f w 0 ≤ getD f′ w 0)
 unfolding levelsReleased
-release-read direct x t home row f a f′ e w h = let z = same-flow (length t) f a f′ e w h in (omega arith, omega arith)
-release-read project x t home row f a f′ e w h = let z = released-read (length t) x _ f a f′ a e w h in (omega (arith, z .0, only-le (has w (Rattle.rules.specs.Path.untilRow row (pathBy t home))) x), omega (arith, z .0))
-release-read instream x t home row f a f′ e w h = let z = same-flow (length t) f a f′ e w h in (omega arith, omega arith)
-release-read storage x t home row f a f′ e w h = let z = same-flow (length t) f a f′ e w h in (omega arith, omega arith)
+release-read n direct x t home row f a f′ e w h = let z = same-flow n f a f′ e w h in (omega arith, omega arith)
+release-read n project x t home row f a f′ e w h = let z = released-read n x _ f a f′ a e w h in (omega (arith, z .0, only-le (has w (Rattle.rules.specs.Path.untilRow row (pathBy t home))) x), omega (arith, z .0))
+release-read n instream x t home row f a f′ e w h = let z = same-flow n f a f′ e w h in (omega arith, omega arith)
+release-read n storage x t home row f a f′ e w h = let z = same-flow n f a f′ e w h in (omega arith, omega arith)
 
 lowered : (l : List ℕ) (i x j : ℕ) → getD (set l i (getD l i 0 - x)) j 0 ≤ getD l j 0
 lowered [] i x j = omega arith
@@ -102,7 +103,7 @@ module _ (b : Basin) (st t rs : List ℕ) (pa : List (List ℕ)) (ri : List ℕ)
   few-reservoirs : reservoirCount rs ≤ 8
   few-reservoirs = omega (arith, reservoirs-count b st t rs pa ri w, w .accepted .few-reservoirs)
 
-  module _ (m : ℕ) (hm : m < 12) (f a : List ℕ) (sh : List Bool) (bd : List ℕ) (river : RiverOk t f a 4000000000000000000) (board : BoardOk bd 4000000000000000000) (marks : length t ≤ length sh) (within : Within b bd) where
+  module _ (m : ℕ) (hm : m < 12) (f a : List ℕ) (sh : List Bool) (bd : List ℕ) (river : RiverOk t f a 4000000000000000000) (board : BoardOk bd 4000000000000000000) (marks : 64 ≤ length sh) (within : Within b bd) where
     pub can-ask : CanAsk rs ri i m bd
     can-ask = record {
       place = hi;
@@ -117,8 +118,11 @@ module _ (b : Basin) (st t rs : List ℕ) (pa : List (List ℕ)) (ri : List ℕ)
       };
     }
 
-    pub can-see : CanSee st t a sh row
-    can-see = record { downhill = river .downhill; rows = rows-st b st t rs pa ri w; on = row-in b st t rs pa ri w i hi; places = river .places₂; marks = marks }
+    pub can-see : CanSee st t row
+    can-see = record {
+      row-ok = record { downhill = river .downhill; on = row-on b st t rs pa ri w i hi };
+      stationed = λ q h. omega (arith, path-in b st t rs pa ri w row (row-in b st t rs pa ri w i hi) q h, rows-st b st t rs pa ri w);
+    }
 
     -- ---- the river part fits
 
@@ -143,23 +147,24 @@ module _ (b : Basin) (st t rs : List ℕ) (pa : List (List ℕ)) (ri : List ℕ)
       along-fits n k h = omega (arith, ap (λ (c : Bool). partOf a ask (cond c (seen.Low row) (seenOn sh a row p))) n, path-fits (seenOn sh a row p) refl k h)
 
       self : has row p ≡ true
-      self = by-self t (river .downhill) row (row-in b st t rs pa ri w i hi)
+      self = by-self t (river .downhill) row (row-on b st t rs pa ri w i hi)
 
       own-fits : (c : Bool) → eqb kb 3 ≡ c → d ≤ getD a row 0
       unfolding partOf
       own-fits true n = omega (arith, ap (λ (c : Bool). partOf a ask (cond c (seen.Low row) (seenOn sh a row p))) n)
       own-fits false n = along-fits n row self
 
-      in-path : (k : ℕ) → has k p ≡ true → k < length t
-      in-path k h = by-in t (river .downhill) row (row-in b st t rs pa ri w i hi) k h
+      in-path : (k : ℕ) → has k p ≡ true → k < 64
+      in-path = by-in t (river .downhill) row (row-on b st t rs pa ri w i hi)
 
       pub can-take : CanTake kb t row d f a
       can-take = record {
-        on = row-in b st t rs pa ri w i hi;
+        on = row-on b st t rs pa ri w i hi;
         places = river .places₂;
         divert-ok = λ n. record {
-          row-ok = record { downhill = river .downhill; on = row-in b st t rs pa ri w i hi; places = river .places };
-          places = river .places₂;
+          row-ok = record { downhill = river .downhill; on = row-on b st t rs pa ri w i hi };
+          places = river .places;
+          places₂ = river .places₂;
           flows = record { at-least = λ k h. omega (arith, along-fits n k h, river .within k (in-path k h)) };
           availables = record { at-least = along-fits n };
         };
@@ -184,13 +189,13 @@ module _ (b : Basin) (st t rs : List ℕ) (pa : List (List ℕ)) (ri : List ℕ)
 
       -- ---- after the river part
 
-      module _ (f₁ a₁ bd₁ : List ℕ) (e₁ : levelsOf (length t) f₁ a₁ ≡ levelsTaken (kindOf kb) d t row (levelsOf (length t) f a)) (eb : bd₁ ≡ boardStored (kindOf kb) (capacityIn rs v) v i d bd)
+      module _ (f₁ a₁ bd₁ : List ℕ) (e₁ : (n : ℕ) → levelsOf n f₁ a₁ ≡ levelsTaken (kindOf kb) d t row (levelsOf n f a)) (eb : bd₁ ≡ boardStored (kindOf kb) (capacityIn rs v) v i d bd)
           (fs : length f₁ ≡ length f) (gs : length a₁ ≡ length a) where
-        flow-less : (k : ℕ) → k < length t → getD f₁ k 0 ≤ getD f k 0
-        flow-less k h = taken-read (kindOf kb) d t row f a f₁ a₁ e₁ k h .0
+        flow-less : (k : ℕ) → k < 64 → getD f₁ k 0 ≤ getD f k 0
+        flow-less k h = taken-read 64 (kindOf kb) d t row f a f₁ a₁ (e₁ 64) k h .0
 
-        within₁ : (k : ℕ) → k < length t → getD a₁ k 0 ≤ getD f₁ k 0
-        within₁ k h = taken-read (kindOf kb) d t row f a f₁ a₁ e₁ k h .1 (river .within k h)
+        within₁ : (k : ℕ) → k < 64 → getD a₁ k 0 ≤ getD f₁ k 0
+        within₁ k h = taken-read 64 (kindOf kb) d t row f a f₁ a₁ (e₁ 64) k h .1 (river .within k h)
 
         stored-facts : (k : Kind) → (isStorage k ≡ true → v < 8) → (length (boardStored k (capacityIn rs v) v i d bd) ≡ length bd) × ((j : ℕ) → getD (boardStored k (capacityIn rs v) v i d bd) j 0 ≤ getD bd j 0 + mostAmount)
             × ((j : ℕ) → 266 ≤ j → getD (boardStored k (capacityIn rs v) v i d bd) j 0 ≡ getD bd j 0) × (getD (boardStored k (capacityIn rs v) v i d bd) 0 0 ≡ getD bd 0 0)
@@ -213,19 +218,23 @@ module _ (b : Basin) (st t rs : List ℕ) (pa : List (List ℕ)) (ri : List ℕ)
         pub size₁ : length bd₁ ≡ 970
         size₁ = facts₁ .0 ∙ board .size
 
+        home-on : v < reservoirCount rs → homeRow rs v < 64
+        home-on h = omega (arith, home-in b st t rs pa ri w v h, few b st t rs pa ri w)
+
         pub can-draw : CanDraw kb t rs v (ask - d) f₁ bd₁
         can-draw = record {
           there = λ z. let h : v < reservoirCount rs = project-behind b st t rs pa ri w i hi (eq-of z) in (h, omega (arith, few-reservoirs));
           release-ok = λ z x l. let h : v < reservoirCount rs = project-behind b st t rs pa ri w i hi (eq-of z) in record {
-            row-ok = record { downhill = river .downhill; on = home-in b st t rs pa ri w v h; places = omega (arith, river .places) };
-            flows = record { fits = λ k q. let c : k < length t = by-in t (river .downhill) (homeRow rs v) (home-in b st t rs pa ri w v h) k q in omega (arith, flow-less k c, river .room k c, ask-small) };
+            row-ok = record { downhill = river .downhill; on = home-on h };
+            places = omega (arith, river .places);
+            flows = record { fits = λ k q. let c : k < 64 = by-in t (river .downhill) (homeRow rs v) (home-on h) k q in omega (arith, flow-less k c, river .room k c, ask-small) };
           };
           size = size₁;
         }
 
         -- ---- after the part from storage
 
-        module _ (x : ℕ) (f₂ bd₂ : List ℕ) (ex : x ≡ drawnIn (kindOf kb) (ask - d) v bd₁) (e₂ : levelsOf (length t) f₂ a₁ ≡ levelsReleased (kindOf kb) x t (homeRow rs v) row (levelsOf (length t) f₁ a₁))
+        module _ (x : ℕ) (f₂ bd₂ : List ℕ) (ex : x ≡ drawnIn (kindOf kb) (ask - d) v bd₁) (e₂ : (n : ℕ) → levelsOf n f₂ a₁ ≡ levelsReleased (kindOf kb) x t (homeRow rs v) row (levelsOf n f₁ a₁))
             (eb₂ : bd₂ ≡ boardDrawn (kindOf kb) x v bd₁) (fs₂ : length f₂ ≡ length f₁) where
           drawn-le : (k : Kind) → drawnIn k (ask - d) v bd₁ ≤ ask - d
           unfolding drawnIn
@@ -269,21 +278,20 @@ module _ (b : Basin) (st t rs : List ℕ) (pa : List (List ℕ)) (ri : List ℕ)
           pub filled₂ : (j : ℕ) → getD bd₂ j 0 ≤ getD bd j 0 + mostAmount
           filled₂ j = le-trans (facts₂ .1 j) (facts₁ .1 j)
 
-          pub grown₂ : (k : ℕ) → k < length t → getD f₂ k 0 ≤ getD f k 0 + mostAmount
-          grown₂ k h = omega (arith, release-read (kindOf kb) x t (homeRow rs v) row f₁ a₁ f₂ e₂ k h .0, flow-less k h, both-small)
+          pub grown₂ : (k : ℕ) → k < 64 → getD f₂ k 0 ≤ getD f k 0 + mostAmount
+          grown₂ k h = omega (arith, release-read 64 (kindOf kb) x t (homeRow rs v) row f₁ a₁ f₂ (e₂ 64) k h .0, flow-less k h, both-small)
 
-          pub within₂ : (k : ℕ) → k < length t → getD a₁ k 0 ≤ getD f₂ k 0
-          within₂ k h = omega (arith, release-read (kindOf kb) x t (homeRow rs v) row f₁ a₁ f₂ e₂ k h .1, within₁ k h)
+          pub within₂ : (k : ℕ) → k < 64 → getD a₁ k 0 ≤ getD f₂ k 0
+          within₂ k h = omega (arith, release-read 64 (kindOf kb) x t (homeRow rs v) row f₁ a₁ f₂ (e₂ 64) k h .1, within₁ k h)
 
           pub can-finish : CanFinish t pa ri i (rightRecord ri i) d x f₂ a₁ sh bd₂
           can-finish = record {
             small = both-small;
             efficient = omega (arith, (right-good b st t rs pa ri w i hi) .efficiency-most, efficiency-is b st t rs pa ri w i hi);
-            on = row-in b st t rs pa ri w i hi;
+            on = row-on b st t rs pa ri w i hi;
             points-ok = points-ok b st t rs pa ri w i hi;
             river = record {
               downhill = river .downhill;
-              few = river .few;
               places = omega (arith, river .places);
               places₂ = omega (arith, river .places₂);
               room = λ k h. omega (arith, grown₂ k h, river .room k h);

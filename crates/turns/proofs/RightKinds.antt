@@ -7,18 +7,19 @@ use Prim.Native.Nat.{ℕ, zero, suc, _+_, _-_, _*_, _%_, _^_, _≤_, _<_, min}
 use native.Mathlib.Nat.{one-mul, mod-eq-of-lt}
 use native.Mathlib.Omega.{arith}
 use lib.Dec.{ltb, eqb}
-use lib.ListN.{length, getD, set}
-use lib.Seq.{getD-set-other}
+use lib.ListN.{length, getD, set, length-set}
+use lib.Seq.{getD-set-other, set-getD}
 use Rattle.general.proofs.Tests.{eqb-other, eqb-same, by-eqb, ltb-yes, ltb-no}
 use Rattle.general.specs.Sums.{only}
 use Rattle.rules.specs.Basin.{Kind, direct, project, instream, storage}
-use Rattle.rules.specs.River.{Level, along, diverted, reserved, released}
+use Rattle.rules.specs.Path.{untilRow}
+use Rattle.rules.specs.River.{Level, diverted, reserved, released}
 use Rattle.rules.specs.Turn.{bit}
 use Rattle.basin.specs.Records.{kindOf, rightRecord, amountAt}
-use Rattle.river.specs.Table.{pathBy}
-use Rattle.river.specs.Arrays.{levelsOf}
-use Rattle.river.proofs.Levels.{walk-done, available-here, available-other, reserved-level}
-use Rattle.turns.specs.Stages.{isStorage, amountIn, askOf, askIn, capacityIn, levelsTaken, markedBoard, poured, boardStored, drawnIn, boardDrawn, levelsReleased, homeRow, Drawn}
+use Rattle.basin.specs.Table.{pathBy}
+use Rattle.river.specs.Arrays.{levelsOf, Walked, Raised}
+use Rattle.river.proofs.Levels.{walk-done, change-idle, available-here, available-other, reserved-level, diverted-zero, reserved-zero, released-zero}
+use Rattle.turns.specs.Stages.{isStorage, amountIn, askOf, askIn, capacityIn, levelsTaken, Taken, markedBoard, poured, boardStored, drawnIn, boardDrawn, levelsReleased, homeRow, Drawn}
 
 pub kind-direct : (k : ℕ) → k ≡ 1 → kindOf k ≡ direct
 unfolding kindOf
@@ -93,15 +94,35 @@ ask-storage storage rs ri i m bd x e f = f
 
 -- ---- the river part
 
-pub taken-instream : (k : ℕ) (d : ℕ) (t : List ℕ) (row : ℕ) (f a : List ℕ) → k ≡ 3 → row < length a → d ≤ getD a row 0
-    → levelsOf (length t) f (set a row (getD a row 0 - d)) ≡ levelsTaken (kindOf k) d t row (levelsOf (length t) f a)
-unfolding levelsTaken
-taken-instream k d t row f a e h l = rw (kind-instream k e)
-    (walk-done (length t) row (reserved d) f a f (set a row (getD a row 0 - d)) (available-here f a row _ h ∙ reserved-level (getD f row 0) (getD a row 0) d l) (available-other f a row _))
+module _ (k d : ℕ) (t : List ℕ) (row : ℕ) (f a : List ℕ) where
+  pub taken-nothing : d ≡ 0 → Taken k t row d f a f a
+  unfolding levelsTaken
+  taken-nothing z = record {
+    levels = λ n. rw z (by-kind k (λ x. levelsOf n f a ≡ levelsTaken x 0 t row (levelsOf n f a))
+        (λ _. change-idle n (diverted 0) (pathBy t row) f a diverted-zero)
+        (λ _. change-idle n (diverted 0) (pathBy t row) f a diverted-zero)
+        (λ _. change-idle n (reserved 0) (row ∷ []) f a reserved-zero)
+        (λ _ _ _. change-idle n (diverted 0) (pathBy t row) f a diverted-zero));
+    flow-size = refl;
+    available-size = refl;
+  }
 
-pub taken-along : (k : ℕ) (d : ℕ) (t : List ℕ) (row : ℕ) (l l′ : List Level) → (k ≡ 3 → ⊥) → l′ ≡ along (diverted d) (pathBy t row) l → l′ ≡ levelsTaken (kindOf k) d t row l
-unfolding levelsTaken
-taken-along k d t row l l′ n e = by-kind k (λ x. l′ ≡ levelsTaken x d t row l) (λ _. e) (λ _. e) (λ z. absurd (n z)) (λ _ _ _. e)
+  pub taken-instream : k ≡ 3 → row < length a → d ≤ getD a row 0 → Taken k t row d f a f (set a row (getD a row 0 - d))
+  unfolding levelsTaken
+  taken-instream e h l = record {
+    levels = λ n. rw (kind-instream k e)
+        (walk-done n row (reserved d) f a f (set a row (getD a row 0 - d)) (available-here f a row _ h ∙ reserved-level (getD f row 0) (getD a row 0) d l) (available-other f a row _));
+    flow-size = refl;
+    available-size = length-set a row (getD a row 0 - d);
+  }
+
+  pub taken-along : (f′ a′ : List ℕ) → (k ≡ 3 → ⊥) → Walked (diverted d) (pathBy t row) f a f′ a′ → Taken k t row d f a f′ a′
+  unfolding levelsTaken
+  taken-along f′ a′ n e = record {
+    levels = λ h. by-kind k (λ x. levelsOf h f′ a′ ≡ levelsTaken x d t row (levelsOf h f a)) (λ _. e .levels h) (λ _. e .levels h) (λ z. absurd (n z)) (λ _ _ _. e .levels h);
+    flow-size = e .flow-size;
+    available-size = e .available-size;
+  }
 
 -- ---- the storage of a storage right
 
@@ -153,18 +174,31 @@ drawn-none storage lacking v bd n = (refl, refl, λ t home row l. refl)
 pub not-project : (k : ℕ) → (k ≡ 2 → ⊥) → kindOf k ≡ project → ⊥
 not-project k n e = by-kind k (λ x. x ≡ project → ⊥) (λ _ z. let y : _≡_ {A = ℕ} 0 1 = cc in omega arith) (λ z _. n z) (λ _ z. let y : _≡_ {A = ℕ} 0 1 = cc in omega arith) (λ _ _ _ z. let y : _≡_ {A = ℕ} 0 1 = cc in omega arith) e
 
-pub drawn-not : (k : ℕ) (t rs : List ℕ) (v row lacking : ℕ) (f bd : List ℕ) → (k ≡ 2 → ⊥) → Drawn k t rs v row lacking f bd f bd 0
-drawn-not k t rs v row lacking f bd n =
-    let w = drawn-none (kindOf k) lacking v bd (not-project k n) in
-    record { amount = w .0; board = w .1; levels = λ a. w .2 t (homeRow rs v) row (levelsOf (length t) f a) }
+module _ (k : ℕ) (t rs : List ℕ) (v row lacking : ℕ) (f bd : List ℕ) where
+  pub drawn-not : (k ≡ 2 → ⊥) → Drawn k t rs v row lacking f bd f bd 0
+  drawn-not n =
+      let w = drawn-none (kindOf k) lacking v bd (not-project k n) in
+      record { amount = w .0; board = w .1; levels = λ h a. w .2 t (homeRow rs v) row (levelsOf h f a); flow-size = refl }
 
-pub drawn-yes : (k : ℕ) (t rs : List ℕ) (v row lacking : ℕ) (f bd f′ : List ℕ) (x home : ℕ) → k ≡ 2 → x ≡ min lacking (getD bd (1 + v) 0) → home ≡ homeRow rs v
-    → ((a : List ℕ) → levelsOf (length t) f′ a ≡ along (released x) (Rattle.rules.specs.Path.untilRow row (pathBy t home)) (levelsOf (length t) f a))
-    → Drawn k t rs v row lacking f bd f′ (set bd (1 + v) (getD bd (1 + v) 0 - x)) x
-unfolding drawnIn boardDrawn levelsReleased
-drawn-yes k t rs v row lacking f bd f′ x home e ex eh h =
-    let p = kind-project k e in
-    record { amount = rw p ex; board = rw p; levels = λ a. rw (p, ← eh) (h a) }
+  module _ (x : ℕ) (e : k ≡ 2) (ex : x ≡ min lacking (getD bd (1 + v) 0)) where
+    -- an empty reservoir, or nothing lacking
+    pub drawn-nothing : x ≡ 0 → Drawn k t rs v row lacking f bd f bd 0
+    unfolding drawnIn boardDrawn levelsReleased
+    drawn-nothing z =
+        let p = kind-project k e in
+        let same : getD bd (1 + v) 0 - 0 ≡ getD bd (1 + v) 0 = omega arith in
+        record {
+          amount = rw p (sym z ∙ ex);
+          board = rw (p, same) (sym (set-getD bd (1 + v) 0));
+          levels = λ h a. rw p (change-idle h (released 0) (untilRow row (pathBy t (homeRow rs v))) f a released-zero);
+          flow-size = refl;
+        }
+
+    pub drawn-yes : (f′ : List ℕ) (home : ℕ) → home ≡ homeRow rs v → Raised (released x) (untilRow row (pathBy t home)) f f′ → Drawn k t rs v row lacking f bd f′ (set bd (1 + v) (getD bd (1 + v) 0 - x)) x
+    unfolding drawnIn boardDrawn levelsReleased
+    drawn-yes f′ home eh h =
+        let p = kind-project k e in
+        record { amount = rw p ex; board = rw p; levels = λ n a. rw (p, ← eh) (h .levels n a); flow-size = h .flow-size }
 
 -- the word of marks is neither a storage nor a number taken
 pub nine : (v i d : ℕ) (bd : List ℕ) → v < 8 → getD (set (set bd (1 + v) (getD bd (1 + v) 0 + d)) (10 + i) (getD bd (10 + i) 0 + d)) 9 0 ≡ getD bd 9 0

@@ -6,7 +6,7 @@ use mathlib.Core.Path.{_≡_, refl, sym, ap, _∙_, subst}
 use Prim.Native.Nat.{ℕ, zero, suc, _+_, _-_, _*_, _/_, _≤_, _<_, min}
 use native.Mathlib.Omega.{arith}
 use lib.Dec.{ltb, eqb}
-use lib.ListN.{length, getD, set}
+use lib.ListN.{getD, set}
 use lib.IntN.{ℤ, pos}
 use lib.Signed.{leZ, ≤ℤ-refl}
 use Rattle.general.specs.Sums.{only}
@@ -22,7 +22,7 @@ use Rattle.rules.specs.Month.{reasonNumber}
 use Rattle.basin.specs.Records.{stationsOf, reservoirCount, rightCount, rightRecord, kindOf, rightOf}
 use Rattle.river.specs.declared.Seen.{Seen}
 use Rattle.river.specs.declared.Seen.the-variants as seen
-use Rattle.river.specs.Table.{pathBy}
+use Rattle.basin.specs.Table.{pathBy}
 use Rattle.river.specs.Arrays.{seenOn}
 use Rattle.turns.specs.declared.grants.Grant as program
 use Rattle.turns.specs.declared.grants.Reason as why
@@ -33,10 +33,9 @@ use Rattle.turns.specs.Grants.{seenBy, partOf, RiverGave}
 use Rattle.turns.specs.Finish.{shortReason}
 use Rattle.turns.specs.State.{stateOf, shortOf, Setting, whyOf, namedBy, homeOf, Tells}
 use Rattle.turns.proofs.RightKinds.{by-kind}
-use Rattle.turns.proofs.Facts.{rows-t, downhill, path-is, right-good, kind-is, row-is, row-in}
+use Rattle.turns.proofs.Facts.{path-in, right-good, kind-is, row-is, row-in}
 use Rattle.turns.proofs.Looks.{seen-called}
 use Rattle.turns.proofs.Demands.{path-of, called-is, available-is, lowest-is, short-at}
-use Rattle.river.proofs.Table.{by-in, by-self}
 
 -- ---- the turn by its stages
 
@@ -102,8 +101,8 @@ module _ (b : Basin) (st t rs : List ℕ) (pa : List (List ℕ)) (ri : List ℕ)
   abbrev s : State
   s = stateOf b f a sh bd
 
-  on-path : (q : ℕ) → has q p ≡ true → q < length t
-  on-path q h = by-in t (downhill b st t rs pa ri w) row (row-in b st t rs pa ri w i hi) q h
+  on-path : (q : ℕ) → has q p ≡ true → q < rows b
+  on-path = path-in b st t rs pa ri w row (row-in b st t rs pa ri w i hi)
 
   numbers : (q : ℕ) → numberAt (stationsOf st) q ≡ numberAt (b .stations) q
   numbers q = ap (λ (l : List Station). numberAt l q) (sym (w .stations))
@@ -123,7 +122,7 @@ module _ (b : Basin) (st t rs : List ℕ) (pa : List (List ℕ)) (ri : List ℕ)
       let c = seen-called sh a row p q e in (
         called-is b st t rs pa ri w i hi 0 (omega arith) f a sh bd ∙ c .2,
         subst (λ (x : ℕ). has x (map (numberAt (b .stations)) (keepIf (λ k. getD (shortOf (rows b) sh) k false) (pathOf b r))) ≡ true) (sym (numbers q))
-            (has-map (numberAt (b .stations)) q _ (has-keep _ q (pathOf b r) (rw (path-of b st t rs pa ri w i hi) (c .0)) (short-at (rows b) sh q (omega (arith, on-path q (c .0), rows-t b st t rs pa ri w)) ∙ c .1))),
+            (has-map (numberAt (b .stations)) q _ (has-keep _ q (pathOf b r) (rw (path-of b st t rs pa ri w i hi) (c .0)) (short-at (rows b) sh q (on-path q (c .0)) ∙ c .1))),
       )
 
   -- else a row with the lowest available flow

@@ -22,7 +22,7 @@ use Rattle.rules.specs.Turn.{State, pathOf, storageOf, bit, withLevels, afterDi
 use Rattle.rules.specs.Accepted.{GoodRight, ReturnsOk, Unreturned, Returned}
 use Rattle.rules.proofs.Splits.{shares-length}
 use Rattle.basin.specs.Records.{reservoirCount, reservoirRecord, rightCount, rightRecord, returnRow, returnPercent, kindOf, rightOf}
-use Rattle.river.specs.Table.{pathBy}
+use Rattle.basin.specs.Table.{pathBy}
 use Rattle.river.specs.Arrays.{levelsOf}
 use Rattle.turns.specs.Dues.{mostAmount}
 use Rattle.turns.specs.Returning.{pointsUpTo, partIn, partsIn, returnBy, PointsOk, Gave}
@@ -30,7 +30,7 @@ use Rattle.turns.specs.Finish.{restOf}
 use Rattle.turns.specs.State.{storagesOf, marksOf, takenOf, shortOf, stateOf, Setting}
 use Rattle.turns.specs.Stages.{isStorage, capacityIn, levelsTaken, markedBoard, poured, boardStored, drawnIn, boardDrawn, levelsReleased, homeRow}
 use Rattle.turns.proofs.Shares.{upTo, share-at}
-use Rattle.turns.proofs.Facts.{rows-t, few, path-is, reservoirs-count, rights-count, right-is, capacity-is, home-is, home-in, right-good, kind-is, row-is, reservoir-of, row-in, efficiency-is, points-are, pointAt, points-ok, points-count, percents-count, pattern-same, percent-at, project-behind, storage-behind}
+use Rattle.turns.proofs.Facts.{path-is, reservoirs-count, rights-count, right-is, capacity-is, home-is, home-in, right-good, kind-is, row-is, reservoir-of, row-in, row-on, efficiency-is, points-are, pointAt, point-in, points-count, percents-count, pattern-same, percent-at, project-behind, storage-behind}
 use Rattle.turns.proofs.Places.{storage-at, taken-at, mark-at, storages-set, shorts-set, taken-off, marks-off, places-same, storages-poured, taken-poured, marks-poured}
 use Rattle.turns.proofs.RightKinds.{stored-not, stored-is, not-project}
 use Rattle.turns.proofs.Demands.{path-of, state-storage, state-capacity}
@@ -87,21 +87,17 @@ module _ (b : Basin) (st t rs : List ℕ) (pa : List (List ℕ)) (ri : List ℕ)
   abbrev v : ℕ
   v = (rightRecord ri i) .reservoir
 
-  -- levels of the basin's rows are levels of the table's
-  rows-levels : (f a : List ℕ) → levelsOf (rows b) f a ≡ levelsOf (length t) f a
-  rows-levels f a = ap (λ (n : ℕ). levelsOf n f a) (sym (rows-t b st t rs pa ri w))
-
   -- ---- the river part
 
-  levels-taken : (k : Kind) (d : ℕ) (f a f′ a′ : List ℕ) → levelsOf (length t) f′ a′ ≡ levelsTaken k d t row (levelsOf (length t) f a)
+  levels-taken : (k : Kind) (d : ℕ) (f a f′ a′ : List ℕ) → levelsOf (rows b) f′ a′ ≡ levelsTaken k d t row (levelsOf (rows b) f a)
       → (sh : List Bool) (bd : List ℕ) → isStorage k ≡ false → stateOf b f′ a′ sh bd ≡ riverStage k b i r d (stateOf b f a sh bd)
   unfolding levelsTaken riverStage withLevels afterDiversion stateOf
-  levels-taken direct d f a f′ a′ e sh bd n = state-path _ _ _ _ _ _ _ _ _ _ (rows-levels f′ a′ ∙ e ∙ rw (path-of b st t rs pa ri w i hi, rows-levels f a)) refl refl refl refl
-  levels-taken project d f a f′ a′ e sh bd n = state-path _ _ _ _ _ _ _ _ _ _ (rows-levels f′ a′ ∙ e ∙ rw (path-of b st t rs pa ri w i hi, rows-levels f a)) refl refl refl refl
-  levels-taken instream d f a f′ a′ e sh bd n = state-path _ _ _ _ _ _ _ _ _ _ (rows-levels f′ a′ ∙ e ∙ rw (row-is b st t rs pa ri w i hi, rows-levels f a)) refl refl refl refl
+  levels-taken direct d f a f′ a′ e sh bd n = state-path _ _ _ _ _ _ _ _ _ _ (e ∙ rw (path-of b st t rs pa ri w i hi)) refl refl refl refl
+  levels-taken project d f a f′ a′ e sh bd n = state-path _ _ _ _ _ _ _ _ _ _ (e ∙ rw (path-of b st t rs pa ri w i hi)) refl refl refl refl
+  levels-taken instream d f a f′ a′ e sh bd n = state-path _ _ _ _ _ _ _ _ _ _ (e ∙ rw (row-is b st t rs pa ri w i hi)) refl refl refl refl
   levels-taken storage d f a f′ a′ e sh bd n = absurd-bool refl n
 
-  module _ (d : ℕ) (f a f′ a′ : List ℕ) (e : levelsOf (length t) f′ a′ ≡ levelsTaken storage d t row (levelsOf (length t) f a)) (sh : List Bool) (bd : List ℕ)
+  module _ (d : ℕ) (f a f′ a′ : List ℕ) (e : levelsOf (rows b) f′ a′ ≡ levelsTaken storage d t row (levelsOf (rows b) f a)) (sh : List Bool) (bd : List ℕ)
       (there : v < reservoirCount rs) (size : length bd ≡ 970) (free : 0 < d → bit (getD bd 9 0) v ≡ false) where
     abbrev held : Bool
     held = ltb 0 d && eqb (getD bd (1 + v) 0 + d) (capacityIn rs v)
@@ -125,7 +121,7 @@ module _ (b : Basin) (st t rs : List ℕ) (pa : List (List ℕ)) (ri : List ℕ)
     storage-stage : stateOf b f′ a′ sh (poured (capacityIn rs v) v i d bd) ≡ riverStage storage b i r d (stateOf b f a sh bd)
     unfolding levelsTaken riverStage afterDiversion stateOf
     storage-stage = state-path _ _ _ _ _ _ _ _ _ _
-        (rows-levels f′ a′ ∙ e ∙ rw (path-of b st t rs pa ri w i hi, rows-levels f a))
+        (e ∙ rw (path-of b st t rs pa ri w i hi))
         (storages-poured (length (b .reservoirs)) (length (b .rights)) bd (capacityIn rs v) v i d few-r in-r in-i (w .accepted .few-rights) size free held
         ∙ ap (λ (x : ℕ). set (storagesOf (length (b .reservoirs)) bd) v (x + d)) (sym (storage-at (length (b .reservoirs)) bd v in-r))
         ∙ ap (λ (k : ℕ). set (storagesOf (length (b .reservoirs)) bd) k (getD (storagesOf (length (b .reservoirs)) bd) k 0 + d)) (sym (reservoir-of b st t rs pa ri w i hi)))
@@ -137,25 +133,25 @@ module _ (b : Basin) (st t rs : List ℕ) (pa : List (List ℕ)) (ri : List ℕ)
         ∙ ap (λ (x : ℕ). set (takenOf (length (b .rights)) bd) i (x + d)) (sym (taken-at (length (b .rights)) bd i in-i)))
         refl
 
-  stored-plain : (k : Kind) (d : ℕ) (f a f′ a′ : List ℕ) → levelsOf (length t) f′ a′ ≡ levelsTaken k d t row (levelsOf (length t) f a) → (sh : List Bool) (bd : List ℕ) → isStorage k ≡ false
+  stored-plain : (k : Kind) (d : ℕ) (f a f′ a′ : List ℕ) → levelsOf (rows b) f′ a′ ≡ levelsTaken k d t row (levelsOf (rows b) f a) → (sh : List Bool) (bd : List ℕ) → isStorage k ≡ false
       → stateOf b f′ a′ sh (boardStored k (capacityIn rs v) v i d bd) ≡ riverStage k b i r d (stateOf b f a sh bd)
   stored-plain k d f a f′ a′ e sh bd n = ap (stateOf b f′ a′ sh) (sym (stored-not k (capacityIn rs v) v i d bd n)) ∙ levels-taken k d f a f′ a′ e sh bd n
 
-  stored-storage : (d : ℕ) (f a f′ a′ : List ℕ) → levelsOf (length t) f′ a′ ≡ levelsTaken storage d t row (levelsOf (length t) f a) → (sh : List Bool) (bd : List ℕ)
+  stored-storage : (d : ℕ) (f a f′ a′ : List ℕ) → levelsOf (rows b) f′ a′ ≡ levelsTaken storage d t row (levelsOf (rows b) f a) → (sh : List Bool) (bd : List ℕ)
       → v < reservoirCount rs → length bd ≡ 970 → (0 < d → bit (getD bd 9 0) v ≡ false)
       → stateOf b f′ a′ sh (boardStored storage (capacityIn rs v) v i d bd) ≡ riverStage storage b i r d (stateOf b f a sh bd)
   stored-storage d f a f′ a′ e sh bd o n free = ap (stateOf b f′ a′ sh) (sym (stored-is storage (capacityIn rs v) v i d bd refl)) ∙ storage-stage d f a f′ a′ e sh bd o n free
 
-  pub river-stage : (d : ℕ) (f a f′ a′ : List ℕ) (sh : List Bool) (bd : List ℕ) → levelsOf (length t) f′ a′ ≡ levelsTaken (kindOf kb) d t row (levelsOf (length t) f a)
+  pub river-stage : (d : ℕ) (f a f′ a′ : List ℕ) (sh : List Bool) (bd : List ℕ) → levelsOf (rows b) f′ a′ ≡ levelsTaken (kindOf kb) d t row (levelsOf (rows b) f a)
       → length bd ≡ 970 → (isStorage (kindOf kb) ≡ true → 0 < d → bit (getD bd 9 0) v ≡ false)
       → stateOf b f′ a′ sh (boardStored (kindOf kb) (capacityIn rs v) v i d bd) ≡ riverStage (r .kind) b i r d (stateOf b f a sh bd)
   river-stage d f a f′ a′ sh bd e n free = go (kindOf kb) (kind-is b st t rs pa ri w i hi) e free
     where
-      go : (k : Kind) → r .kind ≡ k → levelsOf (length t) f′ a′ ≡ levelsTaken k d t row (levelsOf (length t) f a) → (isStorage k ≡ true → 0 < d → bit (getD bd 9 0) v ≡ false)
+      go : (k : Kind) → r .kind ≡ k → levelsOf (rows b) f′ a′ ≡ levelsTaken k d t row (levelsOf (rows b) f a) → (isStorage k ≡ true → 0 < d → bit (getD bd 9 0) v ≡ false)
           → stateOf b f′ a′ sh (boardStored k (capacityIn rs v) v i d bd) ≡ riverStage (r .kind) b i r d (stateOf b f a sh bd)
       go k z e free = by k e (λ q. storage-behind b st t rs pa ri w i hi (z ∙ q)) free ∙ ap (λ (x : Kind). riverStage x b i r d (stateOf b f a sh bd)) (sym z)
         where
-          by : (k : Kind) → levelsOf (length t) f′ a′ ≡ levelsTaken k d t row (levelsOf (length t) f a) → (k ≡ storage → v < reservoirCount rs) → (isStorage k ≡ true → 0 < d → bit (getD bd 9 0) v ≡ false)
+          by : (k : Kind) → levelsOf (rows b) f′ a′ ≡ levelsTaken k d t row (levelsOf (rows b) f a) → (k ≡ storage → v < reservoirCount rs) → (isStorage k ≡ true → 0 < d → bit (getD bd 9 0) v ≡ false)
               → stateOf b f′ a′ sh (boardStored k (capacityIn rs v) v i d bd) ≡ riverStage k b i r d (stateOf b f a sh bd)
           by direct e o free = stored-plain direct d f a f′ a′ e sh bd refl
           by project e o free = stored-plain project d f a f′ a′ e sh bd refl
@@ -171,25 +167,25 @@ module _ (b : Basin) (st t rs : List ℕ) (pa : List (List ℕ)) (ri : List ℕ)
   drawn-by instream lacking f a sh bd o = refl
   drawn-by storage lacking f a sh bd o = refl
 
-  stage-by : (k : Kind) (x : ℕ) (f a f′ : List ℕ) (sh : List Bool) (bd : List ℕ) → levelsOf (length t) f′ a ≡ levelsReleased k x t (homeRow rs v) row (levelsOf (length t) f a) → length bd ≡ 970
+  stage-by : (k : Kind) (x : ℕ) (f a f′ : List ℕ) (sh : List Bool) (bd : List ℕ) → levelsOf (rows b) f′ a ≡ levelsReleased k x t (homeRow rs v) row (levelsOf (rows b) f a) → length bd ≡ 970
       → (k ≡ project → v < reservoirCount rs) → stateOf b f′ a sh (boardDrawn k x v bd) ≡ storageStage k b r x (stateOf b f a sh bd)
   unfolding boardDrawn levelsReleased storageStage stateOf
-  stage-by direct x f a f′ sh bd e n o = state-path _ _ _ _ _ _ _ _ _ _ (rows-levels f′ a ∙ e ∙ sym (rows-levels f a)) refl refl refl refl
+  stage-by direct x f a f′ sh bd e n o = state-path _ _ _ _ _ _ _ _ _ _ e refl refl refl refl
   stage-by project x f a f′ sh bd e n o =
       let there : v < reservoirCount rs = o refl in
       let in-r : v < length (b .reservoirs) = omega (arith, reservoirs-count b st t rs pa ri w) in
       let few-r : length (b .reservoirs) ≤ 8 = w .accepted .few-reservoirs in
       let home : (reservoirOf b r) .row ≡ homeRow rs v = ap (λ (k : ℕ). (reservoirAt b k) .row) (reservoir-of b st t rs pa ri w i hi) ∙ home-is b st t rs pa ri w v there in
       state-path _ _ _ _ _ _ _ _ _ _
-      (rows-levels f′ a ∙ e ∙ rw (← home, path-is b st t rs pa ri w ((reservoirOf b r) .row) (omega (arith, home, home-in b st t rs pa ri w v there)), row-is b st t rs pa ri w i hi, rows-levels f a))
+      (e ∙ rw (← home, path-is b st t rs pa ri w ((reservoirOf b r) .row) (omega (arith, home, home-in b st t rs pa ri w v there)), row-is b st t rs pa ri w i hi))
       (storages-set (length (b .reservoirs)) bd v (getD bd (1 + v) 0 - x) in-r (omega arith)
       ∙ ap (λ (y : ℕ). set (storagesOf (length (b .reservoirs)) bd) v (y - x)) (sym (storage-at (length (b .reservoirs)) bd v in-r))
       ∙ ap (λ (k : ℕ). set (storagesOf (length (b .reservoirs)) bd) k (getD (storagesOf (length (b .reservoirs)) bd) k 0 - x)) (sym (reservoir-of b st t rs pa ri w i hi)))
       (marks-off (length (b .reservoirs)) bd (1 + v) (getD bd (1 + v) 0 - x) (λ z. omega arith))
       (taken-off (length (b .rights)) bd (1 + v) (getD bd (1 + v) 0 - x) (omega arith))
       refl
-  stage-by instream x f a f′ sh bd e n o = state-path _ _ _ _ _ _ _ _ _ _ (rows-levels f′ a ∙ e ∙ sym (rows-levels f a)) refl refl refl refl
-  stage-by storage x f a f′ sh bd e n o = state-path _ _ _ _ _ _ _ _ _ _ (rows-levels f′ a ∙ e ∙ sym (rows-levels f a)) refl refl refl refl
+  stage-by instream x f a f′ sh bd e n o = state-path _ _ _ _ _ _ _ _ _ _ e refl refl refl refl
+  stage-by storage x f a f′ sh bd e n o = state-path _ _ _ _ _ _ _ _ _ _ e refl refl refl refl
 
   project-of : kindOf kb ≡ project → v < reservoirCount rs
   project-of e = go kb refl
@@ -200,7 +196,7 @@ module _ (b : Basin) (st t rs : List ℕ) (pa : List (List ℕ)) (ri : List ℕ)
   pub drawn-is : (lacking : ℕ) (f a : List ℕ) (sh : List Bool) (bd : List ℕ) → drawnIn (kindOf kb) lacking v bd ≡ storagePart (r .kind) r (stateOf b f a sh bd) lacking
   drawn-is lacking f a sh bd = drawn-by (kindOf kb) lacking f a sh bd project-of ∙ ap (λ (k : Kind). storagePart k r (stateOf b f a sh bd) lacking) (sym (kind-is b st t rs pa ri w i hi))
 
-  pub storage-stage-is : (x : ℕ) (f a f′ : List ℕ) (sh : List Bool) (bd : List ℕ) → levelsOf (length t) f′ a ≡ levelsReleased (kindOf kb) x t (homeRow rs v) row (levelsOf (length t) f a) → length bd ≡ 970
+  pub storage-stage-is : (x : ℕ) (f a f′ : List ℕ) (sh : List Bool) (bd : List ℕ) → levelsOf (rows b) f′ a ≡ levelsReleased (kindOf kb) x t (homeRow rs v) row (levelsOf (rows b) f a) → length bd ≡ 970
       → stateOf b f′ a sh (boardDrawn (kindOf kb) x v bd) ≡ storageStage (r .kind) b r x (stateOf b f a sh bd)
   storage-stage-is x f a f′ sh bd e n = stage-by (kindOf kb) x f a f′ sh bd e n project-of ∙ ap (λ (k : Kind). storageStage k b r x (stateOf b f a sh bd)) (sym (kind-is b st t rs pa ri w i hi))
 
@@ -263,7 +259,7 @@ module _ (b : Basin) (st t rs : List ℕ) (pa : List (List ℕ)) (ri : List ℕ)
   parts-is d = parts-by (r .kind) ((right-good b st t rs pa ri w i hi) .returns-ok) d
 
   -- the table's paths and the decoded pattern are the rules'
-  by-rules : (pat : List ℕ) (qs : List Part) (l : List Level) → All (λ (q : Part). q .row < length t) qs → returnBy t pat qs l ≡ returnNow (b .stations) pat qs l
+  by-rules : (pat : List ℕ) (qs : List Part) (l : List Level) → All (λ (q : Part). q .row < rows b) qs → returnBy t pat qs l ≡ returnNow (b .stations) pat qs l
   unfolding returnBy returnNow
   by-rules pat [] l h = refl
   by-rules pat (q ∷ qs) l h = rw (path-is b st t rs pa ri w (q .row) (h .0)) (by-rules pat qs _ (h .1))
@@ -273,13 +269,13 @@ module _ (b : Basin) (st t rs : List ℕ) (pa : List (List ℕ)) (ri : List ℕ)
       (λ z. rw (ap (partsIn ri i d) z ∙ parts-zero ri i d) (e pattern (patternOf b r)))
       (λ z. ap (λ (p : List ℕ). f p (partsIn ri i d n)) (sym (pattern-same b st t rs pa ri w i hi (omega arith))))
 
-  parts-rows : (d : ℕ) → All (λ (q : Part). q .row < length t) (partsIn ri i d n)
+  parts-rows : (d : ℕ) → All (λ (q : Part). q .row < rows b) (partsIn ri i d n)
   unfolding partsIn
-  parts-rows d = all-tab (λ (q : Part). q .row < length t) n (partIn ri i d) (λ k h. subst (λ (x : ℕ). x < length t) (part-row ri i d k) ((points-ok b st t rs pa ri w i hi) .rows k h))
+  parts-rows d = all-tab (λ (q : Part). q .row < rows b) n (partIn ri i d) (λ k h. subst (λ (x : ℕ). x < rows b) (part-row ri i d k) (point-in b st t rs pa ri w i hi k h))
 
   pub return-stage : (d : ℕ) (isShort : Bool) (f a f′ a′ : List ℕ) (sh sh′ : List Bool) (bd bd′ : List ℕ)
-      → levelsOf (length t) f′ a′ ≡ returnBy t pattern (partsIn ri i (restOf d ((rightRecord ri i) .efficiency)) n) (levelsOf (length t) f a)
-      → ((j : ℕ) → j < 266 → getD bd′ j 0 ≡ getD bd j 0) → sh′ ≡ cond isShort (set sh row true) sh → length t ≤ length sh
+      → levelsOf (rows b) f′ a′ ≡ returnBy t pattern (partsIn ri i (restOf d ((rightRecord ri i) .efficiency)) n) (levelsOf (rows b) f a)
+      → ((j : ℕ) → j < 266 → getD bd′ j 0 ≡ getD bd j 0) → sh′ ≡ cond isShort (set sh row true) sh → 64 ≤ length sh
       → stateOf b f′ a′ sh′ bd′ ≡ returnStage (r .kind) b r d isShort (stateOf b f a sh bd)
   unfolding returnStage stateOf
   return-stage d isShort f a f′ a′ sh sh′ bd bd′ e same m marks =
@@ -287,17 +283,16 @@ module _ (b : Basin) (st t rs : List ℕ) (pa : List (List ℕ)) (ri : List ℕ)
       let pl = places-same (length (b .reservoirs)) bd bd′ (omega (arith, w .accepted .few-reservoirs)) same in
       let pi = places-same (length (b .rights)) bd bd′ (w .accepted .few-rights) same in
       state-path _ _ _ _ _ _ _ _ _ _
-      (rows-levels f′ a′ ∙ e
-      ∙ by-rules pattern (partsIn ri i rest n) (levelsOf (length t) f a) (parts-rows rest)
-      ∙ pattern-either (λ p qs. returnNow (b .stations) p qs (levelsOf (length t) f a)) (λ p q. none-now p q) rest
-      ∙ ap (λ (qs : List Part). returnNow (b .stations) (patternOf b r) qs (levelsOf (length t) f a)) (sym (parts-is d))
-      ∙ ap (returnNow (b .stations) (patternOf b r) (partsOf (r .kind) r d)) (sym (rows-levels f a)))
+      (e
+      ∙ by-rules pattern (partsIn ri i rest n) (levelsOf (rows b) f a) (parts-rows rest)
+      ∙ pattern-either (λ p qs. returnNow (b .stations) p qs (levelsOf (rows b) f a)) (λ p q. none-now p q) rest
+      ∙ ap (λ (qs : List Part). returnNow (b .stations) (patternOf b r) qs (levelsOf (rows b) f a)) (sym (parts-is d)))
       (pl .0) (pl .1) (pi .2)
       (ap (shortOf (rows b)) m ∙ short-set isShort ∙ ap (λ (x : ℕ). cond isShort (set (shortOf (rows b) sh) x true) (shortOf (rows b) sh)) (sym (row-is b st t rs pa ri w i hi)))
     where
-      none-now : (p q : List ℕ) → returnNow (b .stations) p [] (levelsOf (length t) f a) ≡ returnNow (b .stations) q [] (levelsOf (length t) f a)
-      none-now p q = returns-none b p (levelsOf (length t) f a) ∙ sym (returns-none b q (levelsOf (length t) f a))
+      none-now : (p q : List ℕ) → returnNow (b .stations) p [] (levelsOf (rows b) f a) ≡ returnNow (b .stations) q [] (levelsOf (rows b) f a)
+      none-now p q = returns-none b p (levelsOf (rows b) f a) ∙ sym (returns-none b q (levelsOf (rows b) f a))
 
       short-set : (c : Bool) → shortOf (rows b) (cond c (set sh row true) sh) ≡ cond c (set (shortOf (rows b) sh) row true) (shortOf (rows b) sh)
-      short-set true = shorts-set (rows b) sh row (omega (arith, row-in b st t rs pa ri w i hi, rows-t b st t rs pa ri w)) (omega (arith, row-in b st t rs pa ri w i hi))
+      short-set true = shorts-set (rows b) sh row (row-in b st t rs pa ri w i hi) (omega (arith, row-on b st t rs pa ri w i hi))
       short-set false = refl

@@ -19,11 +19,11 @@ restOf d e = d - d * e / 100
 pub record CanFinish (t : List ℕ) (pa : List (List ℕ)) (ri : List ℕ) (i : ℕ) (r : RightRecord) (part stored : ℕ) (f a : List ℕ) (sh : List Bool) (bd : List ℕ) : Type 0 where
   pub small : part + stored ≤ mostAmount
   pub efficient : r .efficiency ≤ 100
-  pub on : r .row < length t
-  pub points-ok : PointsOk t pa ri i (r .points) (r .pattern)
+  pub on : r .row < 64
+  pub points-ok : PointsOk pa ri i (r .points) (r .pattern)
   pub river : RiverOk t f a roomy
   pub board : BoardOk bd roomy
-  pub marks : length t ≤ length sh
+  pub marks : 64 ≤ length sh
 
 pub record Finished (t : List ℕ) (pa : List (List ℕ)) (ri : List ℕ) (i : ℕ) (r : RightRecord) (demand part stored : ℕ) (why : Reason) (f a : List ℕ) (sh : List Bool) (bd f′ a′ : List ℕ) (sh′ : List Bool) (bd′ : List ℕ) (g : Grant) : Type 0 where
   pub gave : Gave t (getD pa (r .pattern) []) ri i (r .points) (restOf (part + stored) (r .efficiency)) f a bd f′ a′ bd′

@@ -2,25 +2,24 @@
 use mathlib.Core.Bool.{Bool, true, false, cond}
 use mathlib.Core.List.{List, [], _∷_}
 use mathlib.Core.Path.{_≡_}
-use Prim.Native.Nat.{ℕ, _≤_, _<_, min}
+use Prim.Native.Nat.{ℕ, _<_, min}
 use lib.Dec.{eqb}
-use lib.ListN.{length, getD}
+use lib.ListN.{getD}
+use Rattle.general.specs.Tests.{has}
 use Rattle.rules.specs.Turn.{numberAt}
 use Rattle.basin.specs.Records.{rowsOf, stationsOf}
 use Rattle.river.specs.declared.Seen.{Seen}
 use Rattle.river.specs.declared.Seen.the-variants as seen
-use Rattle.river.specs.Table.{pathBy, Downhill}
+use Rattle.basin.specs.Table.{pathBy, OnTable}
 use Rattle.river.specs.Arrays.{seenOn}
 use Rattle.turns.specs.declared.grants.Reason.{Reason}
 use Rattle.turns.specs.declared.grants.Reason.the-variants.{Met, Called, RiverLow, StorageOut}
 use Rattle.turns.specs.declared.grants.RiverPart.{RiverPart}
 
-pub record CanSee (st t a : List ℕ) (sh : List Bool) (row : ℕ) : Type 0 where
-  pub downhill : Downhill t
-  pub rows : rowsOf st ≡ length t
-  pub on : row < length t
-  pub places : length t ≤ length a
-  pub marks : length t ≤ length sh
+-- a row of the table, and a station at each row of its path
+pub record CanSee (st t : List ℕ) (row : ℕ) : Type 0 where
+  pub row-ok : OnTable t row
+  pub stationed : (q : ℕ) → has q (pathBy t row) ≡ true → q < rowsOf st
 
 -- the row that decides: the right's own for kind 3, else what is seen on its path
 abbrev pub seenBy : List ℕ → List ℕ → List Bool → ℕ → ℕ → Seen

@@ -76,7 +76,7 @@ pub record CanServe (st t rs : List ℕ) (pa : List (List ℕ)) (ri : List ℕ) 
   pub in-year : m < 12
   pub river : RiverOk t f a 1000000000000000000
   pub board : BoardOk bd 1000000000000000000
-  pub marks : length t ≤ length sh
+  pub marks : 64 ≤ length sh
   pub within : Within basin bd
   pub lines : 4 * rightCount ri ≤ length rp
 
@@ -93,8 +93,8 @@ pub record ServedTo (b : Basin) (m k : ℕ) (f a : List ℕ) (sh : List Bool) (b
   pub flow-size : length f′ ≡ length f
   pub available-size : length a′ ≡ length a
   pub short-size : length sh′ ≡ length sh
-  pub within : (w : ℕ) → w < rows b → getD a′ w 0 ≤ getD f′ w 0
-  pub grown : (w : ℕ) → w < rows b → getD f′ w 0 ≤ getD f w 0 + k * (6 * mostAmount)
+  pub within : (w : ℕ) → w < 64 → getD a′ w 0 ≤ getD f′ w 0
+  pub grown : (w : ℕ) → w < 64 → getD f′ w 0 ≤ getD f w 0 + k * (6 * mostAmount)
   pub filled : (j : ℕ) → getD bd′ j 0 ≤ getD bd j 0 + k * (6 * mostAmount)
   pub capped : Within b bd′
   pub kept : Kept b bd bd′
@@ -107,6 +107,9 @@ pub record Served (b : Basin) (m : ℕ) (f a : List ℕ) (sh : List Bool) (bd rp
   pub month : getD bd′ 0 0 ≡ getD bd 0 0
   pub lines : LinesTo (turnsFrom b m (stateOf b f a sh bd)) (length (b .rights)) rp rp′
   pub size : length bd′ ≡ length bd
+  pub flow-size : length f′ ≡ length f
+  pub available-size : length a′ ≡ length a
+  pub short-size : length sh′ ≡ length sh
   pub within : (w : ℕ) → w < rows b → getD a′ w 0 ≤ getD f′ w 0
   pub filled : (j : ℕ) → getD bd′ j 0 ≤ getD bd j 0 + 1536 * mostAmount
   pub capped : Within b bd′

@@ -8,7 +8,7 @@ use lib.ListN.{length, getD}
 use Rattle.general.specs.Sums.{sumTo, only}
 use Rattle.general.specs.Tables.{tab}
 use Rattle.general.specs.Tests.{has}
-use Rattle.river.specs.Table.{pathBy, Downhill}
+use Rattle.basin.specs.Table.{pathBy, Downhill}
 
 -- the most that enters at one row: runoff within its limit, and what eleven months can have sent
 abbrev pub mostInflow : ℕ
@@ -24,19 +24,20 @@ sentTo t runoff bd k i = sumTo k (λ j. only (has i (pathBy t j)) (inflow runoff
 
 pub record CanGather (t runoff bd f a : List ℕ) : Type 0 where
   pub downhill : Downhill t
-  pub few : length t ≤ 64
-  pub sheet : length t ≤ length runoff
+  pub sheet : length runoff ≤ 64
   pub size : length bd ≡ 970
   pub small : (j : ℕ) → inflow runoff bd j ≤ mostInflow
-  pub places : length t ≤ length f
-  pub places₂ : length t ≤ length a
+  pub places : 64 ≤ length f
+  pub places₂ : 64 ≤ length a
   pub empty : (i : ℕ) → getD f i 0 ≡ 0
   pub empty₂ : (i : ℕ) → getD a i 0 ≡ 0
 
--- flow and available flow at each row are what the first k rows send there
+-- flow and available flow at each row are what the first k rows send there, and each row has its place still
 pub record Gathered (t runoff bd : List ℕ) (k : ℕ) (f a : List ℕ) : Type 0 where
-  pub flow : (i : ℕ) → i < length t → getD f i 0 ≡ sentTo t runoff bd k i
-  pub available : (i : ℕ) → i < length t → getD a i 0 ≡ sentTo t runoff bd k i
+  pub flow : (i : ℕ) → i < 64 → getD f i 0 ≡ sentTo t runoff bd k i
+  pub available : (i : ℕ) → i < 64 → getD a i 0 ≡ sentTo t runoff bd k i
+  pub places : 64 ≤ length f
+  pub places₂ : 64 ≤ length a
 
 -- ---- the board as a month opens
 

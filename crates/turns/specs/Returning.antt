@@ -8,7 +8,7 @@ use Rattle.general.specs.Tables.{tab}
 use Rattle.rules.specs.River.{Level, along, returned}
 use Rattle.rules.specs.Returns.{Part, lagged, returnedAt}
 use Rattle.basin.specs.Records.{rightCount, returnRow, returnPercent}
-use Rattle.river.specs.Table.{pathBy, Downhill}
+use Rattle.basin.specs.Table.{pathBy, Downhill}
 use Rattle.river.specs.Arrays.{levelsOf}
 use Rattle.turns.specs.Dues.{mostAmount, roomy, Roomy, Whole}
 
@@ -37,40 +37,39 @@ returnBy t pattern (q ∷ qs) l = returnBy t pattern qs (along (returned (lagged
 -- a place for each row, available flow at most the flow, and room for more
 pub record RiverOk (t f a : List ℕ) (most : ℕ) : Type 0 where
   pub downhill : Downhill t
-  pub few : length t ≤ 64
-  pub places : length t ≤ length f
-  pub places₂ : length t ≤ length a
-  pub room : (w : ℕ) → w < length t → getD f w 0 ≤ most
-  pub within : (w : ℕ) → w < length t → getD a w 0 ≤ getD f w 0
+  pub places : 64 ≤ length f
+  pub places₂ : 64 ≤ length a
+  pub room : (w : ℕ) → w < 64 → getD f w 0 ≤ most
+  pub within : (w : ℕ) → w < 64 → getD a w 0 ≤ getD f w 0
 
 pub record BoardOk (bd : List ℕ) (most : ℕ) : Type 0 where
   pub size : length bd ≡ 970
   pub room : Roomy bd most
 
 -- the n return points of right i, and the pattern that they share
-pub record PointsOk (t : List ℕ) (pa : List (List ℕ)) (ri : List ℕ) (i n which : ℕ) : Type 0 where
+pub record PointsOk (pa : List (List ℕ)) (ri : List ℕ) (i n which : ℕ) : Type 0 where
   pub right-in : i < rightCount ri
   pub few : n ≤ 4
-  pub rows : (k : ℕ) → k < n → returnRow ri i k < length t
+  pub rows : (k : ℕ) → k < n → returnRow ri i k < 64
   pub percents : pointsUpTo ri i n ≤ 100
   pub known : 0 < n → which < 16
   pub whole : 0 < n → Whole (getD pa which [])
 
 pub record CanGive (t : List ℕ) (pa : List (List ℕ)) (ri : List ℕ) (i n which rest : ℕ) (f a bd : List ℕ) : Type 0 where
-  pub points-ok : PointsOk t pa ri i n which
+  pub points-ok : PointsOk pa ri i n which
   pub small : rest ≤ mostAmount
   pub river : RiverOk t f a roomy
   pub board : BoardOk bd roomy
 
--- ---- what is left: f, a, bd before, f′, a′, bd′ after the first n points
+-- ---- what is left: f, a, bd before, f′, a′, bd′ after the first n points; the levels however many rows h are asked after
 
 pub record Gave (t pattern ri : List ℕ) (i n rest : ℕ) (f a bd f′ a′ bd′ : List ℕ) : Type 0 where
-  pub levels : levelsOf (length t) f′ a′ ≡ returnBy t pattern (partsIn ri i rest n) (levelsOf (length t) f a)
+  pub levels : (h : ℕ) → levelsOf h f′ a′ ≡ returnBy t pattern (partsIn ri i rest n) (levelsOf h f a)
   pub dues : (w k : ℕ) → k < 11 → dueIn bd′ w k ≡ dueIn bd w k + returnedAt pattern w (suc k) (partsIn ri i rest n)
   pub same : (j : ℕ) → j < 266 → getD bd′ j 0 ≡ getD bd j 0
   pub size : length bd′ ≡ length bd
   pub flow-size : length f′ ≡ length f
   pub available-size : length a′ ≡ length a
-  pub grown : (w : ℕ) → w < length t → getD f′ w 0 ≤ getD f w 0 + n * mostAmount
-  pub within : (w : ℕ) → w < length t → getD a′ w 0 ≤ getD f′ w 0
+  pub grown : (w : ℕ) → w < 64 → getD f′ w 0 ≤ getD f w 0 + n * mostAmount
+  pub within : (w : ℕ) → w < 64 → getD a′ w 0 ≤ getD f′ w 0
   pub filled : (j : ℕ) → getD bd′ j 0 ≤ getD bd j 0 + n * mostAmount

@@ -12,7 +12,7 @@ use Rattle.rules.specs.River.{Level, along, diverted, reserved, released}
 use Rattle.rules.specs.Turn.{bit}
 use Rattle.basin.specs.declared.rights.RightRecord.{RightRecord}
 use Rattle.basin.specs.Records.{reservoirCount, reservoirRecord, rightCount, rightRecord, amountAt, kindOf}
-use Rattle.river.specs.Table.{pathBy}
+use Rattle.basin.specs.Table.{pathBy}
 use Rattle.river.specs.Arrays.{levelsOf, CanDivert, CanRelease}
 use Rattle.turns.specs.Dues.{mostAmount, roomy}
 use Rattle.turns.specs.Returning.{BoardOk}
@@ -68,10 +68,16 @@ levelsTaken instream d t row l = along (reserved d) (row ∷ []) l
 levelsTaken storage d t row l = along (diverted d) (pathBy t row) l
 
 pub record CanTake (kind : ℕ) (t : List ℕ) (row d : ℕ) (f a : List ℕ) : Type 0 where
-  pub on : row < length t
-  pub places : length t ≤ length a
+  pub on : row < 64
+  pub places : 64 ≤ length a
   pub divert-ok : eqb kind 3 ≡ false → CanDivert t row d f a
   pub enough : d ≤ getD a row 0
+
+-- f, a before and f′, a′ after; the levels however many rows are asked after
+pub record Taken (kind : ℕ) (t : List ℕ) (row d : ℕ) (f a f′ a′ : List ℕ) : Type 0 where
+  pub levels : (n : ℕ) → levelsOf n f′ a′ ≡ levelsTaken (kindOf kind) d t row (levelsOf n f a)
+  pub flow-size : length f′ ≡ length f
+  pub available-size : length a′ ≡ length a
 
 abbrev pub markedBoard : Bool → List ℕ → ℕ → List ℕ
 markedBoard t bd v = cond t (set bd 9 (getD bd 9 0 + 2 ^ v)) bd
@@ -132,4 +138,5 @@ pub record CanDraw (kind : ℕ) (t rs : List ℕ) (v lacking : ℕ) (f bd : List
 pub record Drawn (kind : ℕ) (t rs : List ℕ) (v row lacking : ℕ) (f bd f′ bd′ : List ℕ) (x : ℕ) : Type 0 where
   pub amount : x ≡ drawnIn (kindOf kind) lacking v bd
   pub board : bd′ ≡ boardDrawn (kindOf kind) x v bd
-  pub levels : (a : List ℕ) → levelsOf (length t) f′ a ≡ levelsReleased (kindOf kind) x t (homeRow rs v) row (levelsOf (length t) f a)
+  pub levels : (n : ℕ) (a : List ℕ) → levelsOf n f′ a ≡ levelsReleased (kindOf kind) x t (homeRow rs v) row (levelsOf n f a)
+  pub flow-size : length f′ ≡ length f

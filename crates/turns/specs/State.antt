@@ -14,7 +14,7 @@ use Rattle.rules.specs.Turn.{State, bit, Grant, granted, Turn, turn}
 use Rattle.rules.specs.Month.{reasonNumber}
 use Rattle.rules.specs.Accepted.{Accepted}
 use Rattle.basin.specs.Records.{stationsOf, reservoirsOf, reservoirCount, reservoirRecord, rightsOf, rightCount, rightRecord, rightOf, kindOf}
-use Rattle.river.specs.Table.{tableOf}
+use Rattle.basin.specs.Table.{tableOf}
 use Rattle.river.specs.Arrays.{levelsOf}
 use Rattle.turns.specs.declared.grants.Grant.{Grant as GrantMade}
 use Rattle.turns.specs.declared.grants.Reason.{Reason}
@@ -70,7 +70,7 @@ pub record Ready (st t rs : List ℕ) (pa : List (List ℕ)) (ri : List ℕ) (i 
   pub in-year : m < 12
   pub river : RiverOk t f a 4000000000000000000
   pub board : BoardOk bd 4000000000000000000
-  pub marks : length t ≤ length sh
+  pub marks : 64 ≤ length sh
   pub within : Within basin bd
 
 -- ---- what a turn leaves
@@ -115,7 +115,7 @@ pub record Turned (b : Basin) (ri : List ℕ) (i m : ℕ) (f a : List ℕ) (sh :
   pub flow-size : length f′ ≡ length f
   pub available-size : length a′ ≡ length a
   pub short-size : length sh′ ≡ length sh
-  pub grown : (w : ℕ) → w < rows b → getD f′ w 0 ≤ getD f w 0 + 6 * mostAmount
-  pub within : (w : ℕ) → w < rows b → getD a′ w 0 ≤ getD f′ w 0
+  pub grown : (w : ℕ) → w < 64 → getD f′ w 0 ≤ getD f w 0 + 6 * mostAmount
+  pub within : (w : ℕ) → w < 64 → getD a′ w 0 ≤ getD f′ w 0
   pub filled : (j : ℕ) → getD bd′ j 0 ≤ getD bd j 0 + 6 * mostAmount
   pub kept : Kept b bd bd′

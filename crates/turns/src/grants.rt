@@ -41,14 +41,14 @@ pub fn station_number(stations: &[u8], row: usize) -> u32
 // What the river gives to a right at a row. An instream right is never called, and looks at its own row only; the others look down their path. A demand of nothing needs no look.
 pub fn river_part(
     stations: &[u8],
-    below: &[u8],
-    available: &[u64],
-    short: &[bool],
+    below: &[u8; 64],
+    available: &[u64; 64],
+    short: &[bool; 64],
     kind: u8,
     row: usize,
     demand: u64,
 ) -> RiverPart
-    requires { ⌜ CanSee (now stations) (now below) (now available) (now short) row ⌝ }
+    requires { ⌜ CanSee (now stations) (now below) row ⌝ }
     ensures { λ v. ⌜ RiverGave (now (stations .entry)) (now (below .entry)) (now (available .entry)) (now (short .entry)) kind row demand v ⌝ }
 {
     if demand == 0 {

@@ -70,15 +70,15 @@ fn put_line(report: &mut [u64], i: usize, grant: Grant, station: u64) -> usize
 // The turn of right i with its line in the report. Answers 1 for a right that is short.
 fn serve_line(
     stations: &[u8],
-    below: &[u8],
+    below: &[u8; 64],
     reservoirs: &[u8],
     patterns: [[u8; 12]; 16],
     rights: &[u8],
     i: usize,
     m: usize,
-    flow: &mut [u64],
-    available: &mut [u64],
-    short: &mut [bool],
+    flow: &mut [u64; 64],
+    available: &mut [u64; 64],
+    short: &mut [bool; 64],
     board: &mut [u64],
     report: &mut [u64],
 ) -> usize
@@ -107,14 +107,14 @@ fn serve_line(
 // All rights in list order. Answers how many are short.
 pub fn serve_all(
     stations: &[u8],
-    below: &[u8],
+    below: &[u8; 64],
     reservoirs: &[u8],
     patterns: [[u8; 12]; 16],
     rights: &[u8],
     m: usize,
-    flow: &mut [u64],
-    available: &mut [u64],
-    short: &mut [bool],
+    flow: &mut [u64; 64],
+    available: &mut [u64; 64],
+    short: &mut [bool; 64],
     board: &mut [u64],
     report: &mut [u64],
 ) -> usize

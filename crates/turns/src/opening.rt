@@ -6,12 +6,18 @@ ghost use Rattle.turns.specs.Opening.{CanGather, Gathered, openedAt, ope
 use crate::numbers::wide32;
 use river::put_back;
 
-// What enters at each row, runoff and the returns that arrive, flows down its path. Available flow starts equal to flow.
-pub fn gather(below: &[u8], runoff: &[u32], board: &[u64], flow: &mut [u64], available: &mut [u64])
+// What enters at each row of the sheet, runoff and the returns that arrive, flows down its path. Available flow starts equal to flow.
+pub fn gather(
+    below: &[u8; 64],
+    runoff: &[u32],
+    board: &[u64],
+    flow: &mut [u64; 64],
+    available: &mut [u64; 64],
+)
     requires { ⌜ CanGather (now below) (now runoff) (now board) (now flow) (now available) ⌝ }
-    ensures { λ _. ⌜ Gathered (now (below .entry)) (now (runoff .entry)) (now (board .entry)) (length (now (below .entry))) (now (flow .exit)) (now (available .exit)) ⌝ }
+    ensures { λ _. ⌜ Gathered (now (below .entry)) (now (runoff .entry)) (now (board .entry)) (length (now (runoff .entry))) (now (flow .exit)) (now (available .exit)) ⌝ }
 {
-    let n = below.len();
+    let n = runoff.len();
     for row in 0..n {
         let d = wide32(runoff[row]) + board[266 + 11 * row];
         put_back(below, flow, available, row, d);

@@ -28,7 +28,7 @@ fn short_reason(kind: u8, why: Reason) -> Reason
 
 // The last stage of a turn: the returns, the mark of a short row, the grant.
 fn finish(
-    below: &[u8],
+    below: &[u8; 64],
     patterns: [[u8; 12]; 16],
     rights: &[u8],
     i: usize,
@@ -37,9 +37,9 @@ fn finish(
     part: u64,
     stored: u64,
     why: Reason,
-    flow: &mut [u64],
-    available: &mut [u64],
-    short: &mut [bool],
+    flow: &mut [u64; 64],
+    available: &mut [u64; 64],
+    short: &mut [bool; 64],
     board: &mut [u64],
 ) -> Grant
     requires { ⌜ CanFinish (now below) patterns (now rights) i right part stored (now flow) (now available) (now short) (now board) ⌝ }
@@ -80,15 +80,15 @@ fn finish(
 // The turn of right i in month m.
 pub fn serve_right(
     stations: &[u8],
-    below: &[u8],
+    below: &[u8; 64],
     reservoirs: &[u8],
     patterns: [[u8; 12]; 16],
     rights: &[u8],
     i: usize,
     m: usize,
-    flow: &mut [u64],
-    available: &mut [u64],
-    short: &mut [bool],
+    flow: &mut [u64; 64],
+    available: &mut [u64; 64],
+    short: &mut [bool; 64],
     board: &mut [u64],
 ) -> Grant
     requires { ⌜ Ready (now stations) (now below) (now reservoirs) patterns (now rights) i m (now flow) (now available) (now short) (now board) ⌝ }

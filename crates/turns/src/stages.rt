@@ -5,8 +5,7 @@ ghost use Prim.Native.Nat.{_+_, _≤_, _<_, _^_, min};
 ghost use lib.ListN.{length, getD};
 ghost use Rattle.general.specs.Sums.{only};
 ghost use Rattle.basin.specs.Records.{rightCount, rightRecord, kindOf};
-ghost use Rattle.river.specs.Arrays.{levelsOf};
-ghost use Rattle.turns.specs.Stages.{isStorage, amountIn, askOf, RoomLeft, askIn, CanAsk, levelsTaken, CanTake, capacityIn, poured, CanPour, boardStored, CanFill, CanDraw, Drawn};
+ghost use Rattle.turns.specs.Stages.{isStorage, amountIn, askOf, RoomLeft, askIn, CanAsk, CanTake, Taken, capacityIn, poured, CanPour, boardStored, CanFill, CanDraw, Drawn};
 use crate::numbers::bit_of;
 use crate::numbers::lesser;
 use crate::numbers::wide_size;
@@ -85,11 +84,21 @@ pub fn demand_of(
     amount
 }
 
-// The river part d leaves the river: an instream right's the available flow at its row alone, another's flow and available flow along the path.
-pub fn take(below: &[u8], flow: &mut [u64], available: &mut [u64], kind: u8, row: usize, d: u64)
+// The river part d leaves the river: an instream right's the available flow at its row alone, another's flow and available flow along the path. A part of nothing is no work.
+pub fn take(
+    below: &[u8; 64],
+    flow: &mut [u64; 64],
+    available: &mut [u64; 64],
+    kind: u8,
+    row: usize,
+    d: u64,
+)
     requires { ⌜ CanTake kind (now below) row d (now flow) (now available) ⌝ }
-    ensures { λ _. ⌜ levelsOf (length (now (below .entry))) (now (flow .exit)) (now (available .exit)) ≡ levelsTaken (kindOf kind) d (now (below .entry)) row (levelsOf (length (now (below .entry))) (now (flow .entry)) (now (available .entry))) ⌝ }
+    ensures { λ _. ⌜ Taken kind (now (below .entry)) row d (now (flow .entry)) (now (available .entry)) (now (flow .exit)) (now (available .exit)) ⌝ }
 {
+    if d == 0 {
+        return;
+    }
     if kind == 3 {
         available[row] = available[row] - d;
         return;
@@ -134,11 +143,11 @@ fn power(v: u64) -> u64
     1 << v
 }
 
-// A project right takes what the river did not give from storage, as far as it lasts. The release raises the flow from the reservoir's row to just above the right's row.
+// A project right takes what the river did not give from storage, as far as it lasts. Nothing taken is no work. The release raises the flow from the reservoir's row to just above the right's row.
 pub fn draw(
-    below: &[u8],
+    below: &[u8; 64],
     reservoirs: &[u8],
-    flow: &mut [u64],
+    flow: &mut [u64; 64],
     board: &mut [u64],
     kind: u8,
     v: usize,
@@ -153,6 +162,9 @@ pub fn draw(
     }
     let held = board[1 + v];
     let x = lesser(lacking, held);
+    if x == 0 {
+        return 0;
+    }
     board[1 + v] = held - x;
     let lake = reservoir_at(reservoirs, v);
     release(below, flow, index(lake.row), row, x);

@@ -1,24 +1,22 @@
-use Rattle.river.proofs.Walks.{enough-self, falls-on, next-divert, divert-row, divert-end}
-use Prim.Native.Nat.{ℕ, zero, suc, _+_, _-_, _*_, _/_, _%_, _≤_, _<_, min}
-use mathlib.Core.Path.{_≡_, refl, sym, ap, _∙_, subst}
-use mathlib.Core.List.{List, [], _∷_, _++_}
-use mathlib.Core.Bool.{Bool, true, false, not, cond}
+use Prim.Native.Nat.{ℕ, _-_, _<_}
+use mathlib.Core.Path.{sym, _∙_}
 use native.Mathlib.Omega.{arith}
 use borrow.Author.Needs.{needs}
-use borrow.Author.Tests.{lt-ltb, le-ltb, eq-eqb, ne-eqb, le-leb, lt-leb, not-true, not-false}
-use lib.ListN.{length, getD, set, drop, length-set}
+use lib.ListN.{getD}
 use denote.Ref.{now}
 use borrow.Fn.Kinds.{In}
 use borrow.Fn.PlainCycle.{Measures, is, falls, and}
 use Rattle.river.proofs.divert.Reads as divert
 use Rattle.river.proofs.divert.Kinds as divert-kinds
 use Rattle.river.proofs.+divert.Lts-divert as divert-lts
-use Rattle.river.proofs.next_row.Reads as next-row-reads
+use Rattle.basin.proofs.network.next_row.Reads as next-row-reads
 use Rattle.river.proofs.+divert.{statement}
 use Rattle.river.proofs.+divert.Tie.{close}
+use Rattle.basin.proofs.Table.{walk-on}
+use Rattle.river.proofs.Walks.{enough-self, next-divert, divert-row, divert-end}
 
 abbrev μ-divert : Measures 3 divert-kinds.ps ℕ
-μ-divert κs a = length (a .0 .now) - a .1 .1 .1 .0
+μ-divert κs a = 64 - a .1 .1 .1 .0
 
 abbrev divert-at : ℕ → In 3 divert-kinds.ps
 divert-at t = and 3 divert-kinds.ps (is 3 divert-kinds.ps μ-divert t) divert.Pre
@@ -26,7 +24,7 @@ divert-at t = and 3 divert-kinds.ps (is 3 divert-kinds.ps μ-divert t) divert.Pr
 abbrev divert-below : ℕ → In 3 divert-kinds.ps
 divert-below t = and 3 divert-kinds.ps (falls 3 divert-kinds.ps _<_ μ-divert t) divert.Pre
 
--- src/lib.rt:62:17
+-- src/lib.rt:26:17
 divert-mul-flow : (t : ℕ) → divert-lts.Need-mul-flow (
   next-row-reads.Asked,
   next-row-reads.Learnt,
@@ -35,16 +33,16 @@ divert-mul-flow : (t : ℕ) → divert-lts.Need-mul-flow (
 ) (divert-at t) divert.Post
 divert-mul-flow t c = search needs
 
--- src/lib.rt:62:17
-divert-slice-read-flow : (t : ℕ) → divert-lts.Need-slice-read-flow (
+-- src/lib.rt:26:17
+divert-element-copy-out-flow : (t : ℕ) → divert-lts.Need-element-copy-out-flow (
   next-row-reads.Asked,
   next-row-reads.Learnt,
   divert-below t,
   divert.Post,
 ) (divert-at t) divert.Post
-divert-slice-read-flow t c = search needs
+divert-element-copy-out-flow t c = search needs
 
--- src/lib.rt:62:17
+-- src/lib.rt:26:17
 divert-sub-flow : (t : ℕ) → divert-lts.Need-sub-flow (
   next-row-reads.Asked,
   next-row-reads.Learnt,
@@ -52,10 +50,10 @@ divert-sub-flow : (t : ℕ) → divert-lts.Need-sub-flow (
   divert.Post,
 ) (divert-at t) divert.Post
 divert-sub-flow t c =
-    let b = c .before .before .before .before in
-    omega (arith, enough-self (now (b .args .below)) (b .args .row) (length (now (b .args .flow))) (b .pre .1 .row-ok) (b .args .d) (now (b .args .flow)) (b .pre .1 .flows))
+    let b = c .before in
+    omega (arith, enough-self (now (b .args .below)) (b .args .row) (b .pre .1 .row-ok) (b .args .d) (now (b .args .flow)) (b .pre .1 .flows))
 
--- src/lib.rt:62:5
+-- src/lib.rt:26:5
 divert-mul-flow-2 : (t : ℕ) → divert-lts.Need-mul-flow-2 (
   next-row-reads.Asked,
   next-row-reads.Learnt,
@@ -64,16 +62,16 @@ divert-mul-flow-2 : (t : ℕ) → divert-lts.Need-mul-flow-2 (
 ) (divert-at t) divert.Post
 divert-mul-flow-2 t c = search needs
 
--- src/lib.rt:62:5
-divert-slice-write-flow : (t : ℕ) → divert-lts.Need-slice-write-flow (
+-- src/lib.rt:26:5
+divert-element-write-flow : (t : ℕ) → divert-lts.Need-element-write-flow (
   next-row-reads.Asked,
   next-row-reads.Learnt,
   divert-below t,
   divert.Post,
 ) (divert-at t) divert.Post
-divert-slice-write-flow t c = search needs
+divert-element-write-flow t c = search needs
 
--- src/lib.rt:63:22
+-- src/lib.rt:27:22
 divert-mul-available : (t : ℕ) → divert-lts.Need-mul-available (
   next-row-reads.Asked,
   next-row-reads.Learnt,
@@ -82,16 +80,16 @@ divert-mul-available : (t : ℕ) → divert-lts.Need-mul-available (
 ) (divert-at t) divert.Post
 divert-mul-available t c = search needs
 
--- src/lib.rt:63:22
-divert-slice-read-available : (t : ℕ) → divert-lts.Need-slice-read-available (
+-- src/lib.rt:27:22
+divert-element-copy-out-available : (t : ℕ) → divert-lts.Need-element-copy-out-available (
   next-row-reads.Asked,
   next-row-reads.Learnt,
   divert-below t,
   divert.Post,
 ) (divert-at t) divert.Post
-divert-slice-read-available t c = search needs
+divert-element-copy-out-available t c = search needs
 
--- src/lib.rt:63:22
+-- src/lib.rt:27:22
 divert-sub-available : (t : ℕ) → divert-lts.Need-sub-available (
   next-row-reads.Asked,
   next-row-reads.Learnt,
@@ -99,10 +97,10 @@ divert-sub-available : (t : ℕ) → divert-lts.Need-sub-available (
   divert.Post,
 ) (divert-at t) divert.Post
 divert-sub-available t c =
-    let b = c .before .before .before .before .before in
-    omega (arith, enough-self (now (b .args .below)) (b .args .row) (length (now (b .args .flow))) (b .pre .1 .row-ok) (b .args .d) (now (b .args .available)) (b .pre .1 .availables))
+    let b = c .before .before in
+    omega (arith, enough-self (now (b .args .below)) (b .args .row) (b .pre .1 .row-ok) (b .args .d) (now (b .args .available)) (b .pre .1 .availables))
 
--- src/lib.rt:63:5
+-- src/lib.rt:27:5
 divert-mul-available-2 : (t : ℕ) → divert-lts.Need-mul-available-2 (
   next-row-reads.Asked,
   next-row-reads.Learnt,
@@ -111,16 +109,16 @@ divert-mul-available-2 : (t : ℕ) → divert-lts.Need-mul-available-2 (
 ) (divert-at t) divert.Post
 divert-mul-available-2 t c = search needs
 
--- src/lib.rt:63:5
-divert-slice-write-available : (t : ℕ) → divert-lts.Need-slice-write-available (
+-- src/lib.rt:27:5
+divert-element-write-available : (t : ℕ) → divert-lts.Need-element-write-available (
   next-row-reads.Asked,
   next-row-reads.Learnt,
   divert-below t,
   divert.Post,
 ) (divert-at t) divert.Post
-divert-slice-write-available t c = search needs
+divert-element-write-available t c = search needs
 
--- src/lib.rt:64:31
+-- src/lib.rt:28:31
 divert-next-row-requires : (t : ℕ) → divert-lts.Need-next-row-requires (
   next-row-reads.Asked,
   next-row-reads.Learnt,
@@ -129,7 +127,7 @@ divert-next-row-requires : (t : ℕ) → divert-lts.Need-next-row-requires (
 ) (divert-at t) divert.Post
 divert-next-row-requires t c κs = search needs
 
--- src/lib.rt:64:23
+-- src/lib.rt:28:23
 divert-enum-known-next : (t : ℕ) → divert-lts.Need-enum-known-next (
   next-row-reads.Asked,
   next-row-reads.Learnt,
@@ -138,7 +136,7 @@ divert-enum-known-next : (t : ℕ) → divert-lts.Need-enum-known-next (
 ) (divert-at t) divert.Post
 divert-enum-known-next t c = search needs
 
--- src/lib.rt:65:9
+-- src/lib.rt:29:9
 divert-divert-requires : (t : ℕ) → divert-lts.Need-divert-requires (
   next-row-reads.Asked,
   next-row-reads.Learnt,
@@ -146,14 +144,14 @@ divert-divert-requires : (t : ℕ) → divert-lts.Need-divert-requires (
   divert.Post,
 ) (divert-at t) divert.Post
 divert-divert-requires t c κs =
-    let b = c .before .before .before .before .before .before .before .before .before .before .before in
+    let b = c .before .before .before .before .before .before .before .before in
     let f = now (b .args .flow) in
     let a = now (b .args .available) in
     let i = b .args .row in
     let q = c .before .before .before .next .given .0 .0 in
     let e = sym (c .before .before .before .before .before .next-row .ensures) ∙ c .before .before .before .next .given .1 in
-    let w = falls-on (now (b .args .below)) i q e (length f) (b .pre .1 .row-ok) in
-    (omega (arith, b .pre .0, b .pre .1 .row-ok .on), next-divert (now (b .args .below)) i q e (b .args .d) (getD f i 0 - b .args .d) (getD a i 0 - b .args .d) f a (b .pre .1))
+    let w = walk-on (now (b .args .below)) i q (b .pre .1 .row-ok) q e in
+    (omega (arith, b .pre .0, w .0, w .1 .on), next-divert (now (b .args .below)) i q e (b .args .d) (getD f i 0 - b .args .d) (getD a i 0 - b .args .d) f a (b .pre .1))
 
 divert-enum-told : (t : ℕ) → divert-lts.Need-enum-told (
   next-row-reads.Asked,
@@ -163,29 +161,7 @@ divert-enum-told : (t : ℕ) → divert-lts.Need-enum-told (
 ) (divert-at t) divert.Post
 divert-enum-told t c = search needs
 
--- src/lib.rt:58:1
-divert-same-length : (t : ℕ) → divert-lts.Need-same-length (
-  next-row-reads.Asked,
-  next-row-reads.Learnt,
-  divert-below t,
-  divert.Post,
-) (divert-at t) divert.Post
-divert-same-length t c =
-    let b = c .before .before .before .before .before .before .before .before .before .before .before .before .before .before .before .before in
-    c .before .before .before .before .divert .kept .1 .0 ∙ length-set (now (b .args .flow)) (b .args .row) (getD (now (b .args .flow)) (b .args .row) 0 - b .args .d)
-
--- src/lib.rt:58:1
-divert-same-length-2 : (t : ℕ) → divert-lts.Need-same-length-2 (
-  next-row-reads.Asked,
-  next-row-reads.Learnt,
-  divert-below t,
-  divert.Post,
-) (divert-at t) divert.Post
-divert-same-length-2 t c =
-    let b = c .before .before .before .before .before .before .before .before .before .before .before .before .before .before .before .before in
-    c .before .before .before .before .divert .kept .1 .1 .0 ∙ length-set (now (b .args .available)) (b .args .row) (getD (now (b .args .available)) (b .args .row) 0 - b .args .d)
-
--- src/lib.rt:58:1
+-- src/lib.rt:22:1
 divert-returns : (t : ℕ) → divert-lts.Need-returns (
   next-row-reads.Asked,
   next-row-reads.Learnt,
@@ -193,28 +169,10 @@ divert-returns : (t : ℕ) → divert-lts.Need-returns (
   divert.Post,
 ) (divert-at t) divert.Post
 divert-returns t c =
-    let b = c .before .before .before .before .before .before .before .before .before .before .before .before .before .before .before .before in
-    divert-row (now (b .args .below)) (b .args .row) (b .args .d) (now (b .args .flow)) (now (b .args .available)) _ _ (b .pre .1) (c .before .before .before .before .before .before .before .before .next .given .0 .0) (sym (c .before .before .before .before .before .before .before .before .before .before .next-row .ensures) ∙ c .before .before .before .before .before .before .before .before .next .given .1) (c .before .before .before .before .divert .ensures)
+    let b = c .before .before .before .before .before .before .before .before .before in
+    divert-row (now (b .args .below)) (b .args .row) (b .args .d) (now (b .args .flow)) (now (b .args .available)) (b .pre .1) (c .before .before .before .before .next .given .0 .0) _ _ (sym (c .before .before .before .before .before .before .next-row .ensures) ∙ c .before .before .before .before .next .given .1) (c .divert .ensures)
 
--- src/lib.rt:58:1
-divert-same-length-3 : (t : ℕ) → divert-lts.Need-same-length-3 (
-  next-row-reads.Asked,
-  next-row-reads.Learnt,
-  divert-below t,
-  divert.Post,
-) (divert-at t) divert.Post
-divert-same-length-3 t c = search needs
-
--- src/lib.rt:58:1
-divert-same-length-4 : (t : ℕ) → divert-lts.Need-same-length-4 (
-  next-row-reads.Asked,
-  next-row-reads.Learnt,
-  divert-below t,
-  divert.Post,
-) (divert-at t) divert.Post
-divert-same-length-4 t c = search needs
-
--- src/lib.rt:58:1
+-- src/lib.rt:22:1
 divert-returns-2 : (t : ℕ) → divert-lts.Need-returns-2 (
   next-row-reads.Asked,
   next-row-reads.Learnt,
@@ -222,8 +180,8 @@ divert-returns-2 : (t : ℕ) → divert-lts.Need-returns-2 (
   divert.Post,
 ) (divert-at t) divert.Post
 divert-returns-2 t c =
-    let b = c .before .before .before .before .before .before .before .before in
-    divert-end (now (b .args .below)) (b .args .row) (b .args .d) (now (b .args .flow)) (now (b .args .available)) [] [] (b .pre .1) (sym (c .before .before .next-row .ensures) ∙ c .enum-told .given .1)
+    let b = c .before .before .before .before .before in
+    divert-end (now (b .args .below)) (b .args .row) (b .args .d) (now (b .args .flow)) (now (b .args .available)) (b .pre .1) (sym (c .before .before .next-row .ensures) ∙ c .enum-told .given .1)
 
 pub +divert-spec : {M : Type 1} → statement M
 +divert-spec = close μ-divert λ t. divert-lts.spec (
@@ -235,22 +193,18 @@ pub +divert-spec : {M : Type 1} → statement M
     (divert-at t)
     divert.Post
     (divert-mul-flow t)
-    (divert-slice-read-flow t)
+    (divert-element-copy-out-flow t)
     (divert-sub-flow t)
     (divert-mul-flow-2 t)
-    (divert-slice-write-flow t)
+    (divert-element-write-flow t)
     (divert-mul-available t)
-    (divert-slice-read-available t)
+    (divert-element-copy-out-available t)
     (divert-sub-available t)
     (divert-mul-available-2 t)
-    (divert-slice-write-available t)
+    (divert-element-write-available t)
     (divert-next-row-requires t)
     (divert-enum-known-next t)
     (divert-divert-requires t)
     (divert-enum-told t)
-    (divert-same-length t)
-    (divert-same-length-2 t)
     (divert-returns t)
-    (divert-same-length-3 t)
-    (divert-same-length-4 t)
     (divert-returns-2 t)

@@ -1,24 +1,22 @@
-use Rattle.river.proofs.Walks.{room-self, falls-on, next-return, return-row, return-end}
-use Prim.Native.Nat.{ℕ, zero, suc, _+_, _-_, _*_, _/_, _%_, _≤_, _<_, min}
-use mathlib.Core.Path.{_≡_, refl, sym, ap, _∙_, subst}
-use mathlib.Core.List.{List, [], _∷_, _++_}
-use mathlib.Core.Bool.{Bool, true, false, not, cond}
+use Prim.Native.Nat.{ℕ, _+_, _-_, _<_}
+use mathlib.Core.Path.{sym, _∙_}
 use native.Mathlib.Omega.{arith}
 use borrow.Author.Needs.{needs}
-use borrow.Author.Tests.{lt-ltb, le-ltb, eq-eqb, ne-eqb, le-leb, lt-leb, not-true, not-false}
-use lib.ListN.{length, getD, set, drop, length-set}
+use lib.ListN.{getD}
 use denote.Ref.{now}
 use borrow.Fn.Kinds.{In}
 use borrow.Fn.PlainCycle.{Measures, is, falls, and}
 use Rattle.river.proofs.put_back.Reads as put-back
 use Rattle.river.proofs.put_back.Kinds as put-back-kinds
 use Rattle.river.proofs.+put_back.Lts-put_back as put-back-lts
-use Rattle.river.proofs.next_row.Reads as next-row-reads
+use Rattle.basin.proofs.network.next_row.Reads as next-row-reads
 use Rattle.river.proofs.+put_back.{statement}
 use Rattle.river.proofs.+put_back.Tie.{close}
+use Rattle.basin.proofs.Table.{walk-on}
+use Rattle.river.proofs.Walks.{room-self, next-return, return-row, return-end}
 
 abbrev μ-put-back : Measures 3 put-back-kinds.ps ℕ
-μ-put-back κs a = length (a .0 .now) - a .1 .1 .1 .0
+μ-put-back κs a = 64 - a .1 .1 .1 .0
 
 abbrev put-back-at : ℕ → In 3 put-back-kinds.ps
 put-back-at t = and 3 put-back-kinds.ps (is 3 put-back-kinds.ps μ-put-back t) put-back.Pre
@@ -27,7 +25,7 @@ abbrev put-back-below : ℕ → In 3 put-back-kinds.ps
 put-back-below t =
     and 3 put-back-kinds.ps (falls 3 put-back-kinds.ps _<_ μ-put-back t) put-back.Pre
 
--- src/lib.rt:74:17
+-- src/lib.rt:38:17
 put-back-mul-flow : (t : ℕ) → put-back-lts.Need-mul-flow (
   next-row-reads.Asked,
   next-row-reads.Learnt,
@@ -36,16 +34,16 @@ put-back-mul-flow : (t : ℕ) → put-back-lts.Need-mul-flow (
 ) (put-back-at t) put-back.Post
 put-back-mul-flow t c = search needs
 
--- src/lib.rt:74:17
-put-back-slice-read-flow : (t : ℕ) → put-back-lts.Need-slice-read-flow (
+-- src/lib.rt:38:17
+put-back-element-copy-out-flow : (t : ℕ) → put-back-lts.Need-element-copy-out-flow (
   next-row-reads.Asked,
   next-row-reads.Learnt,
   put-back-below t,
   put-back.Post,
 ) (put-back-at t) put-back.Post
-put-back-slice-read-flow t c = search needs
+put-back-element-copy-out-flow t c = search needs
 
--- src/lib.rt:74:17
+-- src/lib.rt:38:17
 put-back-add-flow : (t : ℕ) → put-back-lts.Need-add-flow (
   next-row-reads.Asked,
   next-row-reads.Learnt,
@@ -53,10 +51,10 @@ put-back-add-flow : (t : ℕ) → put-back-lts.Need-add-flow (
   put-back.Post,
 ) (put-back-at t) put-back.Post
 put-back-add-flow t c =
-    let b = c .before .before .before .before in
-    omega (arith, room-self (now (b .args .below)) (b .args .row) (length (now (b .args .flow))) (b .pre .1 .row-ok) (b .args .d) (now (b .args .flow)) (b .pre .1 .flows))
+    let b = c .before in
+    omega (arith, room-self (now (b .args .below)) (b .args .row) (b .pre .1 .row-ok) (b .args .d) (now (b .args .flow)) (b .pre .1 .flows))
 
--- src/lib.rt:74:5
+-- src/lib.rt:38:5
 put-back-mul-flow-2 : (t : ℕ) → put-back-lts.Need-mul-flow-2 (
   next-row-reads.Asked,
   next-row-reads.Learnt,
@@ -65,16 +63,16 @@ put-back-mul-flow-2 : (t : ℕ) → put-back-lts.Need-mul-flow-2 (
 ) (put-back-at t) put-back.Post
 put-back-mul-flow-2 t c = search needs
 
--- src/lib.rt:74:5
-put-back-slice-write-flow : (t : ℕ) → put-back-lts.Need-slice-write-flow (
+-- src/lib.rt:38:5
+put-back-element-write-flow : (t : ℕ) → put-back-lts.Need-element-write-flow (
   next-row-reads.Asked,
   next-row-reads.Learnt,
   put-back-below t,
   put-back.Post,
 ) (put-back-at t) put-back.Post
-put-back-slice-write-flow t c = search needs
+put-back-element-write-flow t c = search needs
 
--- src/lib.rt:75:22
+-- src/lib.rt:39:22
 put-back-mul-available : (t : ℕ) → put-back-lts.Need-mul-available (
   next-row-reads.Asked,
   next-row-reads.Learnt,
@@ -83,16 +81,16 @@ put-back-mul-available : (t : ℕ) → put-back-lts.Need-mul-available (
 ) (put-back-at t) put-back.Post
 put-back-mul-available t c = search needs
 
--- src/lib.rt:75:22
-put-back-slice-read-available : (t : ℕ) → put-back-lts.Need-slice-read-available (
+-- src/lib.rt:39:22
+put-back-element-copy-out-available : (t : ℕ) → put-back-lts.Need-element-copy-out-available (
   next-row-reads.Asked,
   next-row-reads.Learnt,
   put-back-below t,
   put-back.Post,
 ) (put-back-at t) put-back.Post
-put-back-slice-read-available t c = search needs
+put-back-element-copy-out-available t c = search needs
 
--- src/lib.rt:75:22
+-- src/lib.rt:39:22
 put-back-add-available : (t : ℕ) → put-back-lts.Need-add-available (
   next-row-reads.Asked,
   next-row-reads.Learnt,
@@ -100,10 +98,10 @@ put-back-add-available : (t : ℕ) → put-back-lts.Need-add-available (
   put-back.Post,
 ) (put-back-at t) put-back.Post
 put-back-add-available t c =
-    let b = c .before .before .before .before .before in
-    omega (arith, room-self (now (b .args .below)) (b .args .row) (length (now (b .args .flow))) (b .pre .1 .row-ok) (b .args .d) (now (b .args .available)) (b .pre .1 .availables))
+    let b = c .before .before in
+    omega (arith, room-self (now (b .args .below)) (b .args .row) (b .pre .1 .row-ok) (b .args .d) (now (b .args .available)) (b .pre .1 .availables))
 
--- src/lib.rt:75:5
+-- src/lib.rt:39:5
 put-back-mul-available-2 : (t : ℕ) → put-back-lts.Need-mul-available-2 (
   next-row-reads.Asked,
   next-row-reads.Learnt,
@@ -112,16 +110,16 @@ put-back-mul-available-2 : (t : ℕ) → put-back-lts.Need-mul-available-2 (
 ) (put-back-at t) put-back.Post
 put-back-mul-available-2 t c = search needs
 
--- src/lib.rt:75:5
-put-back-slice-write-available : (t : ℕ) → put-back-lts.Need-slice-write-available (
+-- src/lib.rt:39:5
+put-back-element-write-available : (t : ℕ) → put-back-lts.Need-element-write-available (
   next-row-reads.Asked,
   next-row-reads.Learnt,
   put-back-below t,
   put-back.Post,
 ) (put-back-at t) put-back.Post
-put-back-slice-write-available t c = search needs
+put-back-element-write-available t c = search needs
 
--- src/lib.rt:76:31
+-- src/lib.rt:40:31
 put-back-next-row-requires : (t : ℕ) → put-back-lts.Need-next-row-requires (
   next-row-reads.Asked,
   next-row-reads.Learnt,
@@ -130,7 +128,7 @@ put-back-next-row-requires : (t : ℕ) → put-back-lts.Need-next-row-requires (
 ) (put-back-at t) put-back.Post
 put-back-next-row-requires t c κs = search needs
 
--- src/lib.rt:76:23
+-- src/lib.rt:40:23
 put-back-enum-known-next : (t : ℕ) → put-back-lts.Need-enum-known-next (
   next-row-reads.Asked,
   next-row-reads.Learnt,
@@ -139,7 +137,7 @@ put-back-enum-known-next : (t : ℕ) → put-back-lts.Need-enum-known-next (
 ) (put-back-at t) put-back.Post
 put-back-enum-known-next t c = search needs
 
--- src/lib.rt:77:9
+-- src/lib.rt:41:9
 put-back-put-back-requires : (t : ℕ) → put-back-lts.Need-put-back-requires (
   next-row-reads.Asked,
   next-row-reads.Learnt,
@@ -147,14 +145,14 @@ put-back-put-back-requires : (t : ℕ) → put-back-lts.Need-put-back-requires (
   put-back.Post,
 ) (put-back-at t) put-back.Post
 put-back-put-back-requires t c κs =
-    let b = c .before .before .before .before .before .before .before .before .before .before .before in
+    let b = c .before .before .before .before .before .before .before .before in
     let f = now (b .args .flow) in
     let a = now (b .args .available) in
     let i = b .args .row in
     let q = c .before .before .before .next .given .0 .0 in
     let e = sym (c .before .before .before .before .before .next-row .ensures) ∙ c .before .before .before .next .given .1 in
-    let w = falls-on (now (b .args .below)) i q e (length f) (b .pre .1 .row-ok) in
-    (omega (arith, b .pre .0, b .pre .1 .row-ok .on), next-return (now (b .args .below)) i q e (b .args .d) (getD f i 0 + b .args .d) (getD a i 0 + b .args .d) f a (b .pre .1))
+    let w = walk-on (now (b .args .below)) i q (b .pre .1 .row-ok) q e in
+    (omega (arith, b .pre .0, w .0, w .1 .on), next-return (now (b .args .below)) i q e (b .args .d) (getD f i 0 + b .args .d) (getD a i 0 + b .args .d) f a (b .pre .1))
 
 put-back-enum-told : (t : ℕ) → put-back-lts.Need-enum-told (
   next-row-reads.Asked,
@@ -164,29 +162,7 @@ put-back-enum-told : (t : ℕ) → put-back-lts.Need-enum-told (
 ) (put-back-at t) put-back.Post
 put-back-enum-told t c = search needs
 
--- src/lib.rt:70:1
-put-back-same-length : (t : ℕ) → put-back-lts.Need-same-length (
-  next-row-reads.Asked,
-  next-row-reads.Learnt,
-  put-back-below t,
-  put-back.Post,
-) (put-back-at t) put-back.Post
-put-back-same-length t c =
-    let b = c .before .before .before .before .before .before .before .before .before .before .before .before .before .before .before .before in
-    c .before .before .before .before .put-back .kept .1 .0 ∙ length-set (now (b .args .flow)) (b .args .row) (getD (now (b .args .flow)) (b .args .row) 0 + b .args .d)
-
--- src/lib.rt:70:1
-put-back-same-length-2 : (t : ℕ) → put-back-lts.Need-same-length-2 (
-  next-row-reads.Asked,
-  next-row-reads.Learnt,
-  put-back-below t,
-  put-back.Post,
-) (put-back-at t) put-back.Post
-put-back-same-length-2 t c =
-    let b = c .before .before .before .before .before .before .before .before .before .before .before .before .before .before .before .before in
-    c .before .before .before .before .put-back .kept .1 .1 .0 ∙ length-set (now (b .args .available)) (b .args .row) (getD (now (b .args .available)) (b .args .row) 0 + b .args .d)
-
--- src/lib.rt:70:1
+-- src/lib.rt:34:1
 put-back-returns : (t : ℕ) → put-back-lts.Need-returns (
   next-row-reads.Asked,
   next-row-reads.Learnt,
@@ -194,28 +170,10 @@ put-back-returns : (t : ℕ) → put-back-lts.Need-returns (
   put-back.Post,
 ) (put-back-at t) put-back.Post
 put-back-returns t c =
-    let b = c .before .before .before .before .before .before .before .before .before .before .before .before .before .before .before .before in
-    return-row (now (b .args .below)) (b .args .row) (b .args .d) (now (b .args .flow)) (now (b .args .available)) _ _ (b .pre .1) (c .before .before .before .before .before .before .before .before .next .given .0 .0) (sym (c .before .before .before .before .before .before .before .before .before .before .next-row .ensures) ∙ c .before .before .before .before .before .before .before .before .next .given .1) (c .before .before .before .before .put-back .ensures)
+    let b = c .before .before .before .before .before .before .before .before .before in
+    return-row (now (b .args .below)) (b .args .row) (b .args .d) (now (b .args .flow)) (now (b .args .available)) (b .pre .1) (c .before .before .before .before .next .given .0 .0) _ _ (sym (c .before .before .before .before .before .before .next-row .ensures) ∙ c .before .before .before .before .next .given .1) (c .put-back .ensures)
 
--- src/lib.rt:70:1
-put-back-same-length-3 : (t : ℕ) → put-back-lts.Need-same-length-3 (
-  next-row-reads.Asked,
-  next-row-reads.Learnt,
-  put-back-below t,
-  put-back.Post,
-) (put-back-at t) put-back.Post
-put-back-same-length-3 t c = search needs
-
--- src/lib.rt:70:1
-put-back-same-length-4 : (t : ℕ) → put-back-lts.Need-same-length-4 (
-  next-row-reads.Asked,
-  next-row-reads.Learnt,
-  put-back-below t,
-  put-back.Post,
-) (put-back-at t) put-back.Post
-put-back-same-length-4 t c = search needs
-
--- src/lib.rt:70:1
+-- src/lib.rt:34:1
 put-back-returns-2 : (t : ℕ) → put-back-lts.Need-returns-2 (
   next-row-reads.Asked,
   next-row-reads.Learnt,
@@ -223,8 +181,8 @@ put-back-returns-2 : (t : ℕ) → put-back-lts.Need-returns-2 (
   put-back.Post,
 ) (put-back-at t) put-back.Post
 put-back-returns-2 t c =
-    let b = c .before .before .before .before .before .before .before .before in
-    return-end (now (b .args .below)) (b .args .row) (b .args .d) (now (b .args .flow)) (now (b .args .available)) [] [] (b .pre .1) (sym (c .before .before .next-row .ensures) ∙ c .enum-told .given .1)
+    let b = c .before .before .before .before .before in
+    return-end (now (b .args .below)) (b .args .row) (b .args .d) (now (b .args .flow)) (now (b .args .available)) (b .pre .1) (sym (c .before .before .next-row .ensures) ∙ c .enum-told .given .1)
 
 pub +put-back-spec : {M : Type 1} → statement M
 +put-back-spec = close μ-put-back λ t. put-back-lts.spec (
@@ -236,22 +194,18 @@ pub +put-back-spec : {M : Type 1} → statement M
     (put-back-at t)
     put-back.Post
     (put-back-mul-flow t)
-    (put-back-slice-read-flow t)
+    (put-back-element-copy-out-flow t)
     (put-back-add-flow t)
     (put-back-mul-flow-2 t)
-    (put-back-slice-write-flow t)
+    (put-back-element-write-flow t)
     (put-back-mul-available t)
-    (put-back-slice-read-available t)
+    (put-back-element-copy-out-available t)
     (put-back-add-available t)
     (put-back-mul-available-2 t)
-    (put-back-slice-write-available t)
+    (put-back-element-write-available t)
     (put-back-next-row-requires t)
     (put-back-enum-known-next t)
     (put-back-put-back-requires t)
     (put-back-enum-told t)
-    (put-back-same-length t)
-    (put-back-same-length-2 t)
     (put-back-returns t)
-    (put-back-same-length-3 t)
-    (put-back-same-length-4 t)
     (put-back-returns-2 t)

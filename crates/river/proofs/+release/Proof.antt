@@ -1,24 +1,23 @@
-use Rattle.river.proofs.Walks.{room-self, falls-on, next-release, release-row, release-end, release-stop}
-use Prim.Native.Nat.{ℕ, zero, suc, _+_, _-_, _*_, _/_, _%_, _≤_, _<_, min}
-use mathlib.Core.Path.{_≡_, refl, sym, ap, _∙_, subst}
-use mathlib.Core.List.{List, [], _∷_, _++_}
-use mathlib.Core.Bool.{Bool, true, false, not, cond}
+use Prim.Native.Nat.{ℕ, _+_, _-_, _<_}
+use mathlib.Core.Path.{sym, _∙_}
+use mathlib.Core.List.{[]}
 use native.Mathlib.Omega.{arith}
 use borrow.Author.Needs.{needs}
-use borrow.Author.Tests.{lt-ltb, le-ltb, eq-eqb, ne-eqb, le-leb, lt-leb, not-true, not-false}
-use lib.ListN.{length, getD, set, drop, length-set}
+use lib.ListN.{getD}
 use denote.Ref.{now}
 use borrow.Fn.Kinds.{In}
 use borrow.Fn.PlainCycle.{Measures, is, falls, and}
 use Rattle.river.proofs.release.Reads as release
 use Rattle.river.proofs.release.Kinds as release-kinds
 use Rattle.river.proofs.+release.Lts-release as release-lts
-use Rattle.river.proofs.next_row.Reads as next-row-reads
+use Rattle.basin.proofs.network.next_row.Reads as next-row-reads
 use Rattle.river.proofs.+release.{statement}
 use Rattle.river.proofs.+release.Tie.{close}
+use Rattle.basin.proofs.Table.{walk-on}
+use Rattle.river.proofs.Walks.{room-self, next-release, release-row, release-end, release-stop}
 
 abbrev μ-release : Measures 2 release-kinds.ps ℕ
-μ-release κs a = length (a .0 .now) - a .1 .1 .0
+μ-release κs a = 64 - a .1 .1 .0
 
 abbrev release-at : ℕ → In 2 release-kinds.ps
 release-at t = and 2 release-kinds.ps (is 2 release-kinds.ps μ-release t) release.Pre
@@ -26,7 +25,7 @@ release-at t = and 2 release-kinds.ps (is 2 release-kinds.ps μ-release t) relea
 abbrev release-below : ℕ → In 2 release-kinds.ps
 release-below t = and 2 release-kinds.ps (falls 2 release-kinds.ps _<_ μ-release t) release.Pre
 
--- src/lib.rt:87:9
+-- src/lib.rt:51:9
 release-returns : (t : ℕ) → release-lts.Need-returns (
   next-row-reads.Asked,
   next-row-reads.Learnt,
@@ -34,10 +33,10 @@ release-returns : (t : ℕ) → release-lts.Need-returns (
   release.Post,
 ) (release-at t) release.Post
 release-returns t c =
-    let b = c .before .before .before in
-    λ a. release-stop (now (b .args .below)) (b .args .row) (b .args .d) (b .args .stop) (now (b .args .flow)) a [] (b .pre .1) (c .if1 .taken)
+    let b = c .before in
+    release-stop (now (b .args .below)) (b .args .row) (b .args .d) (b .args .stop) (now (b .args .flow)) (b .pre .1) (c .if1 .taken)
 
--- src/lib.rt:89:17
+-- src/lib.rt:53:17
 release-mul-flow : (t : ℕ) → release-lts.Need-mul-flow (
   next-row-reads.Asked,
   next-row-reads.Learnt,
@@ -46,16 +45,16 @@ release-mul-flow : (t : ℕ) → release-lts.Need-mul-flow (
 ) (release-at t) release.Post
 release-mul-flow t c = search needs
 
--- src/lib.rt:89:17
-release-slice-read-flow : (t : ℕ) → release-lts.Need-slice-read-flow (
+-- src/lib.rt:53:17
+release-element-copy-out-flow : (t : ℕ) → release-lts.Need-element-copy-out-flow (
   next-row-reads.Asked,
   next-row-reads.Learnt,
   release-below t,
   release.Post,
 ) (release-at t) release.Post
-release-slice-read-flow t c = search needs
+release-element-copy-out-flow t c = search needs
 
--- src/lib.rt:89:17
+-- src/lib.rt:53:17
 release-add-flow : (t : ℕ) → release-lts.Need-add-flow (
   next-row-reads.Asked,
   next-row-reads.Learnt,
@@ -63,10 +62,10 @@ release-add-flow : (t : ℕ) → release-lts.Need-add-flow (
   release.Post,
 ) (release-at t) release.Post
 release-add-flow t c =
-    let b = c .before .before .before .before in
-    omega (arith, room-self (now (b .args .below)) (b .args .row) (length (now (b .args .flow))) (b .pre .1 .row-ok) (b .args .d) (now (b .args .flow)) (b .pre .1 .flows))
+    let b = c .before .before in
+    omega (arith, room-self (now (b .args .below)) (b .args .row) (b .pre .1 .row-ok) (b .args .d) (now (b .args .flow)) (b .pre .1 .flows))
 
--- src/lib.rt:89:5
+-- src/lib.rt:53:5
 release-mul-flow-2 : (t : ℕ) → release-lts.Need-mul-flow-2 (
   next-row-reads.Asked,
   next-row-reads.Learnt,
@@ -75,16 +74,16 @@ release-mul-flow-2 : (t : ℕ) → release-lts.Need-mul-flow-2 (
 ) (release-at t) release.Post
 release-mul-flow-2 t c = search needs
 
--- src/lib.rt:89:5
-release-slice-write-flow : (t : ℕ) → release-lts.Need-slice-write-flow (
+-- src/lib.rt:53:5
+release-element-write-flow : (t : ℕ) → release-lts.Need-element-write-flow (
   next-row-reads.Asked,
   next-row-reads.Learnt,
   release-below t,
   release.Post,
 ) (release-at t) release.Post
-release-slice-write-flow t c = search needs
+release-element-write-flow t c = search needs
 
--- src/lib.rt:90:31
+-- src/lib.rt:54:31
 release-next-row-requires : (t : ℕ) → release-lts.Need-next-row-requires (
   next-row-reads.Asked,
   next-row-reads.Learnt,
@@ -93,7 +92,7 @@ release-next-row-requires : (t : ℕ) → release-lts.Need-next-row-requires (
 ) (release-at t) release.Post
 release-next-row-requires t c κs = search needs
 
--- src/lib.rt:90:23
+-- src/lib.rt:54:23
 release-enum-known-next : (t : ℕ) → release-lts.Need-enum-known-next (
   next-row-reads.Asked,
   next-row-reads.Learnt,
@@ -102,7 +101,7 @@ release-enum-known-next : (t : ℕ) → release-lts.Need-enum-known-next (
 ) (release-at t) release.Post
 release-enum-known-next t c = search needs
 
--- src/lib.rt:91:9
+-- src/lib.rt:55:9
 release-release-requires : (t : ℕ) → release-lts.Need-release-requires (
   next-row-reads.Asked,
   next-row-reads.Learnt,
@@ -110,13 +109,13 @@ release-release-requires : (t : ℕ) → release-lts.Need-release-requires (
   release.Post,
 ) (release-at t) release.Post
 release-release-requires t c κs =
-    let b = c .before .before .before .before .before .before .before .before .before in
+    let b = c .before .before .before .before .before .before .before in
     let f = now (b .args .flow) in
     let i = b .args .row in
     let q = c .before .before .next .given .0 .0 in
     let e = sym (c .before .before .before .before .next-row .ensures) ∙ c .before .before .next .given .1 in
-    let w = falls-on (now (b .args .below)) i q e (length f) (b .pre .1 .row-ok) in
-    (omega (arith, b .pre .0, b .pre .1 .row-ok .on), next-release (now (b .args .below)) i q e (b .args .d) (getD f i 0 + b .args .d) 0 f [] (b .pre .1))
+    let w = walk-on (now (b .args .below)) i q (b .pre .1 .row-ok) q e in
+    (omega (arith, b .pre .0, w .0, w .1 .on), next-release (now (b .args .below)) i q e (b .args .d) (getD f i 0 + b .args .d) 0 f [] (b .pre .1))
 
 release-enum-told : (t : ℕ) → release-lts.Need-enum-told (
   next-row-reads.Asked,
@@ -126,18 +125,7 @@ release-enum-told : (t : ℕ) → release-lts.Need-enum-told (
 ) (release-at t) release.Post
 release-enum-told t c = search needs
 
--- src/lib.rt:82:1
-release-same-length : (t : ℕ) → release-lts.Need-same-length (
-  next-row-reads.Asked,
-  next-row-reads.Learnt,
-  release-below t,
-  release.Post,
-) (release-at t) release.Post
-release-same-length t c =
-    let b = c .before .before .before .before .before .before .before .before .before .before .before .before in
-    c .before .before .release .kept .1 .0 ∙ length-set (now (b .args .flow)) (b .args .row) (getD (now (b .args .flow)) (b .args .row) 0 + b .args .d)
-
--- src/lib.rt:82:1
+-- src/lib.rt:46:1
 release-returns-2 : (t : ℕ) → release-lts.Need-returns-2 (
   next-row-reads.Asked,
   next-row-reads.Learnt,
@@ -145,19 +133,10 @@ release-returns-2 : (t : ℕ) → release-lts.Need-returns-2 (
   release.Post,
 ) (release-at t) release.Post
 release-returns-2 t c =
-    let b = c .before .before .before .before .before .before .before .before .before .before .before .before in
-    λ a. release-row (now (b .args .below)) (b .args .row) (b .args .d) (b .args .stop) (now (b .args .flow)) a _ (b .pre .1) (c .before .before .before .before .before .next .given .0 .0) (sym (c .before .before .before .before .before .before .before .next-row .ensures) ∙ c .before .before .before .before .before .next .given .1) (c .before .before .before .before .before .before .before .before .before .if1 .left) (c .before .before .release .ensures a)
+    let b = c .before .before .before .before .before .before .before .before in
+    release-row (now (b .args .below)) (b .args .row) (b .args .d) (b .args .stop) (now (b .args .flow)) (b .pre .1) (c .before .before .before .next .given .0 .0) _ (sym (c .before .before .before .before .before .next-row .ensures) ∙ c .before .before .before .next .given .1) (c .before .before .before .before .before .before .before .if1 .left) (c .release .ensures)
 
--- src/lib.rt:82:1
-release-same-length-2 : (t : ℕ) → release-lts.Need-same-length-2 (
-  next-row-reads.Asked,
-  next-row-reads.Learnt,
-  release-below t,
-  release.Post,
-) (release-at t) release.Post
-release-same-length-2 t c = search needs
-
--- src/lib.rt:82:1
+-- src/lib.rt:46:1
 release-returns-3 : (t : ℕ) → release-lts.Need-returns-3 (
   next-row-reads.Asked,
   next-row-reads.Learnt,
@@ -165,8 +144,8 @@ release-returns-3 : (t : ℕ) → release-lts.Need-returns-3 (
   release.Post,
 ) (release-at t) release.Post
 release-returns-3 t c =
-    let b = c .before .before .before .before .before .before .before in
-    λ a. release-end (now (b .args .below)) (b .args .row) (b .args .d) (b .args .stop) (now (b .args .flow)) a [] (b .pre .1) (sym (c .before .before .next-row .ensures) ∙ c .enum-told .given .1) (c .before .before .before .before .if1 .left)
+    let b = c .before .before .before .before .before in
+    release-end (now (b .args .below)) (b .args .row) (b .args .d) (b .args .stop) (now (b .args .flow)) (b .pre .1) (sym (c .before .before .next-row .ensures) ∙ c .enum-told .given .1) (c .before .before .before .before .if1 .left)
 
 pub +release-spec : {M : Type 1} → statement M
 +release-spec = close μ-release λ t. release-lts.spec (
@@ -179,15 +158,13 @@ pub +release-spec : {M : Type 1} → statement M
     release.Post
     (release-returns t)
     (release-mul-flow t)
-    (release-slice-read-flow t)
+    (release-element-copy-out-flow t)
     (release-add-flow t)
     (release-mul-flow-2 t)
-    (release-slice-write-flow t)
+    (release-element-write-flow t)
     (release-next-row-requires t)
     (release-enum-known-next t)
     (release-release-requires t)
     (release-enum-told t)
-    (release-same-length t)
     (release-returns-2 t)
-    (release-same-length-2 t)
     (release-returns-3 t)

@@ -1,112 +1,88 @@
-use mathlib.Core.Path.{_≡_, refl, sym, ap, _∙_, subst}
+use Prim.Native.Nat.{ℕ, _+_, _-_, _*_, _≤_}
+use mathlib.Core.Path.{ap, subst}
 use native.Mathlib.Omega.{arith}
 use borrow.Author.Needs.{needs}
-use Prim.Native.Nat.{ℕ, _<_, _≤_, _*_, _+_, _-_}
-use lib.ListN.{length, getD}
-use denote.Ref.{now}
-use Rattle.river.proofs.Table.{by-in}
-use Rattle.turns.specs.Opening.{inflow, Gathered}
-use Rattle.turns.proofs.Openings.{gathered-none, gathered-more, can-send}
-use Prim.Native.Nat.{ℕ, zero, suc, _+_, _-_, _*_, _/_, _%_, _≤_, _<_, min}
-use mathlib.Core.Path.{_≡_, refl, sym, ap, _∙_, subst}
-use mathlib.Core.List.{List, [], _∷_, _++_}
-use mathlib.Core.Bool.{Bool, true, false, not, cond}
-use native.Mathlib.Omega.{arith}
-use borrow.Author.Needs.{needs}
-use borrow.Author.Tests.{lt-ltb, le-ltb, eq-eqb, ne-eqb, le-leb, lt-leb, not-true, not-false}
-use lib.ListN.{length, getD, set, drop, length-set}
+use lib.ListN.{getD}
 use denote.Ref.{now}
 use Rattle.turns.proofs.opening.gather.Statement.{statement}
 use Rattle.turns.proofs.opening.gather.Tie as tie
-use Rattle.turns.proofs.opening.gather.Reads as reads
-use Rattle.turns.proofs.opening.gather.Lts as lts
-use Rattle.river.proofs.put_back.Reads as put-back-reads
-use Rattle.turns.proofs.numbers.wide32.Reads as wide32-reads
+use Rattle.turns.specs.Opening.{Gathered}
+use Rattle.turns.proofs.Openings.{gathered-none, gathered-more, can-send}
 
 abbrev Inv-loop : tie.InvT-loop
-Inv-loop below runoff board flow₀ available₀ n row₀ flow available row = (row ≤ n) × (length flow ≡ length flow₀) × (length available ≡ length available₀) × Gathered below runoff board row flow available
+Inv-loop below runoff board flow₀ available₀ n row₀ flow available row = (row ≤ n) × Gathered below runoff board row flow available
 
 abbrev μ-loop : tie.MeasureT-loop
 μ-loop below runoff board flow₀ available₀ n row₀ flow available row = n - row
 
--- src/opening.rt:14:5
+-- src/opening.rt:15:5
 loop-holds : tie.Need-loop-holds Inv-loop μ-loop
 loop-holds c =
-    let s = c .before .before .before .before .before .args in
-    (omega arith, refl, refl, gathered-none (now (s .below)) (now (s .runoff)) (now (s .board)) (now (s .flow)) (now (s .available)) (c .before .before .before .before .before .pre))
+    let s = c .before .before .args in
+    (omega arith, gathered-none (now (s .below)) (now (s .runoff)) (now (s .board)) (now (s .flow)) (now (s .available)) (c .before .before .pre))
 
--- src/opening.rt:15:24
+-- src/opening.rt:16:24
 mul-wide32 : tie.Need-mul-wide32 Inv-loop μ-loop
 mul-wide32 c = search needs
 
--- src/opening.rt:15:24
+-- src/opening.rt:16:24
 shared-slice-read-wide32 : tie.Need-shared-slice-read-wide32 Inv-loop μ-loop
-shared-slice-read-wide32 c = omega (arith, c .before .before .before .before .before .before .before .before .pre .sheet)
+shared-slice-read-wide32 c = search needs
 
--- src/opening.rt:15:17
+-- src/opening.rt:16:17
 wide32-requires : tie.Need-wide32-requires Inv-loop μ-loop
 wide32-requires c κs = search needs
 
--- src/opening.rt:15:51
+-- src/opening.rt:16:51
 mul-d : tie.Need-mul-d Inv-loop μ-loop
-mul-d c = omega (arith, c .before .before .before .before .before .before .before .before .before .pre .few)
+mul-d c = omega (arith, c .before .before .before .before .before .before .pre .sheet)
 
--- src/opening.rt:15:45
+-- src/opening.rt:16:45
 add-d : tie.Need-add-d Inv-loop μ-loop
-add-d c = omega (arith, c .before .before .before .before .before .before .before .before .before .pre .few)
+add-d c = omega (arith, c .before .before .before .before .before .before .pre .sheet)
 
--- src/opening.rt:15:39
+-- src/opening.rt:16:39
 mul-d-2 : tie.Need-mul-d-2 Inv-loop μ-loop
 mul-d-2 c = search needs
 
--- src/opening.rt:15:39
+-- src/opening.rt:16:39
 shared-slice-read-d : tie.Need-shared-slice-read-d Inv-loop μ-loop
-shared-slice-read-d c = omega (arith, c .before .before .before .before .before .before .before .before .before .before .pre .few, c .before .before .before .before .before .before .before .before .before .before .pre .size)
+shared-slice-read-d c = omega (arith, c .before .before .before .before .before .before .before .pre .sheet, c .before .before .before .before .before .before .before .pre .size)
 
--- src/opening.rt:15:17
+-- src/opening.rt:16:17
 add-d-2 : tie.Need-add-d-2 Inv-loop μ-loop
-add-d-2 c = omega (arith, c .before .before .before .before .before .before .before .before .before .before .pre .small (c .before .before .before .before .loop .row), c .before .wide32 .ensures .0)
+add-d-2 c = omega (arith, c .before .before .before .before .before .before .before .pre .small (c .before .before .before .before .loop .row), c .before .wide32 .ensures .0)
 
--- src/opening.rt:16:9
+-- src/opening.rt:17:9
 put-back-requires : tie.Need-put-back-requires Inv-loop μ-loop
 put-back-requires c κs =
-    let s = c .before .before .before .before .before .before .before .before .before .before .before .before .args in
+    let s = c .before .before .before .before .before .before .before .before .before .args in
     let l = c .before .before .before .before .before .before .loop in
-    can-send (now (s .below)) (now (s .runoff)) (now (s .board)) (now (s .flow)) (now (s .available)) (c .before .before .before .before .before .before .before .before .before .before .before .before .pre) (l .row) (omega arith) (l .flow) (l .available) (l .inv .1) (l .inv .2) (l .inv .3) _ (ap (λ (x : ℕ). x + getD (now (s .board)) (266 + 11 * l .row) 0) (c .before .before .before .wide32 .ensures .0)) (by-in (now (s .below)) (c .before .before .before .before .before .before .before .before .before .before .before .before .pre .downhill) (l .row) (omega arith))
+    can-send (now (s .below)) (now (s .runoff)) (now (s .board)) (now (s .flow)) (now (s .available)) (c .before .before .before .before .before .before .before .before .before .pre) (l .row) (omega (arith, c .before .before .before .before .before .before .before .before .before .pre .sheet)) (l .flow) (l .available) (l .inv .1) _ (ap (λ (x : ℕ). x + getD (now (s .board)) (266 + 11 * l .row) 0) (c .before .before .before .wide32 .ensures .0))
 
--- src/opening.rt:14:9
+-- src/opening.rt:15:9
 add-row : tie.Need-add-row Inv-loop μ-loop
 add-row c = search needs
 
--- src/opening.rt:14:5
+-- src/opening.rt:15:5
 loop-less : tie.Need-loop-less Inv-loop μ-loop
 loop-less c = search needs
 
--- src/opening.rt:14:5
+-- src/opening.rt:15:5
 loop-again : tie.Need-loop-again Inv-loop μ-loop
 loop-again c =
-    let s = c .before .before .before .before .before .before .before .before .before .before .before .before .before .before .before .before .before .args in
-    let l = c .before .before .before .before .before .before .before .before .before .before .before .loop in (
+    let s = c .before .before .before .before .before .before .before .before .before .before .args in
+    let l = c .before .before .before .before .before .before .before .loop in (
       omega arith,
-      c .before .before .before .before .put-back .kept .1 .0 ∙ l .inv .1,
-      c .before .before .before .before .put-back .kept .1 .1 .0 ∙ l .inv .2,
-      gathered-more (now (s .below)) (now (s .runoff)) (now (s .board)) (now (s .flow)) (now (s .available)) (c .before .before .before .before .before .before .before .before .before .before .before .before .before .before .before .before .before .pre) (l .row) (omega arith) (l .flow) (l .available) (l .inv .1) (l .inv .2) (l .inv .3) _ (ap (λ (x : ℕ). x + getD (now (s .board)) (266 + 11 * l .row) 0) (c .before .before .before .before .before .before .before .before .wide32 .ensures .0)) _ _ (c .before .before .before .before .put-back .ensures),
+      gathered-more (now (s .below)) (now (s .runoff)) (now (s .board)) (now (s .flow)) (now (s .available)) (c .before .before .before .before .before .before .before .before .before .before .pre) (l .row) (omega (arith, c .before .before .before .before .before .before .before .before .before .before .pre .sheet)) (l .flow) (l .available) (l .inv .1) _ (ap (λ (x : ℕ). x + getD (now (s .board)) (266 + 11 * l .row) 0) (c .before .before .before .before .wide32 .ensures .0)) _ _ (c .put-back .ensures),
     )
 
--- src/opening.rt:9:1
-same-length : tie.Need-same-length Inv-loop μ-loop
-same-length c = c .before .loop .inv .1
-
--- src/opening.rt:9:1
-same-length-2 : tie.Need-same-length-2 Inv-loop μ-loop
-same-length-2 c = c .before .loop .inv .2
-
--- src/opening.rt:9:1
+-- src/opening.rt:10:1
 returns : tie.Need-returns Inv-loop μ-loop
 returns c =
-    let s = c .before .before .before .before .before .before .before .args in
+    let s = c .before .before .before .before .args in
     let l = c .before .loop in
-    subst (λ (k : ℕ). Gathered (now (s .below)) (now (s .runoff)) (now (s .board)) k (l .flow) (l .available)) (omega arith) (l .inv .3)
+    subst (λ (k : ℕ). Gathered (now (s .below)) (now (s .runoff)) (now (s .board)) k (l .flow) (l .available)) (omega arith) (l .inv .1)
 
 pub gather-spec : {M : Type 1} → statement M
 gather-spec =
@@ -127,6 +103,4 @@ gather-spec =
     add-row
     loop-less
     loop-again
-    same-length
-    same-length-2
     returns)

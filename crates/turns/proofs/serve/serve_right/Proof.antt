@@ -1,115 +1,86 @@
-use Rattle.turns.proofs.Assembling.{within-same, see-ok, part-ok, take-ok, fill-ok, draw-ok, finish-ok, turned}
-use Rattle.turns.proofs.Readying.{can-ask}
-use Prim.Native.Nat.{ℕ, zero, suc, _+_, _-_, _*_, _/_, _%_, _≤_, _<_, min}
-use mathlib.Core.Path.{_≡_, refl, sym, ap, _∙_, subst}
-use mathlib.Core.List.{List, [], _∷_, _++_}
-use mathlib.Core.Bool.{Bool, true, false, not, cond}
 use native.Mathlib.Omega.{arith}
 use borrow.Author.Needs.{needs}
-use borrow.Author.Tests.{lt-ltb, le-ltb, eq-eqb, ne-eqb, le-leb, lt-leb, not-true, not-false}
-use lib.ListN.{length, getD, set, drop, length-set}
 use denote.Ref.{now}
 use Rattle.turns.proofs.serve.serve_right.Statement.{statement}
 use Rattle.turns.proofs.serve.serve_right.Tie as tie
-use Rattle.turns.proofs.serve.serve_right.Reads as reads
-use Rattle.turns.proofs.serve.serve_right.Lts as lts
-use Rattle.basin.proofs.bytes.index.Reads as index-reads
-use Rattle.basin.proofs.rights.right_at.Reads as right-at-reads
-use Rattle.turns.proofs.grants.river_part.Reads as river-part-reads
-use Rattle.turns.proofs.serve.finish.Reads as finish-reads
-use Rattle.turns.proofs.serve.short_reason.Reads as short-reason-reads
-use Rattle.turns.proofs.stages.demand_of.Reads as demand-of-reads
-use Rattle.turns.proofs.stages.draw.Reads as draw-reads
-use Rattle.turns.proofs.stages.fill.Reads as fill-reads
-use Rattle.turns.proofs.stages.take.Reads as take-reads
+use Rattle.turns.proofs.Assembling.{within-same, see-ok, part-ok, take-ok, fill-ok, draw-ok, finish-ok, turned}
+use Rattle.turns.proofs.Readying.{can-ask}
 
--- src/serve.rt:80:9
+-- src/serve.rt:97:9
 right-at-requires : tie.Need-right-at-requires
 right-at-requires c κs = search needs
 
--- src/serve.rt:82:9
+-- src/serve.rt:99:9
 index-requires : tie.Need-index-requires
 index-requires c κs = search needs
 
--- src/serve.rt:83:9
+-- src/serve.rt:100:9
 index-requires-2 : tie.Need-index-requires-2
 index-requires-2 c κs = search needs
 
--- src/serve.rt:84:9
+-- src/serve.rt:101:9
 demand-of-requires : tie.Need-demand-of-requires
 demand-of-requires c κs =
-    let b = c .before .before .before .before .before .before .before .before .before .before .before .before in
+    let b = c .before .before .before .before .before .before .before .before in
     let pb = b .pre in
     (c .before .before .before .right-at .ensures, can-ask (pb .basin) (now (b .args .stations)) (now (b .args .below)) (now (b .args .reservoirs)) (b .args .patterns) (now (b .args .rights)) (pb .setting) (b .args .i) (pb .place) (b .args .m) (pb .in-year) (now (b .args .flow)) (now (b .args .available)) (now (b .args .short)) (now (b .args .board)) (pb .river) (pb .board) (pb .marks) (pb .within))
 
--- src/serve.rt:85:9
+-- src/serve.rt:102:9
 river-part-requires : tie.Need-river-part-requires
 river-part-requires c κs =
-    let b = c .before .before .before .before .before .before .before .before .before .before .before .before .before .before .before in
+    let b = c .before .before .before .before .before .before .before .before .before .before .before in
     let pb = b .pre in
     see-ok (pb .basin) (now (b .args .stations)) (now (b .args .below)) (now (b .args .reservoirs)) (b .args .patterns) (now (b .args .rights)) (pb .setting) (b .args .i) (pb .place) (b .args .m) (pb .in-year) (now (b .args .flow)) (now (b .args .available)) (now (b .args .short)) (now (b .args .board)) (pb .river) (pb .board) (pb .marks) (pb .within) (c .before .before .before .before .before .before .right-at .result) (c .before .before .before .before .before .index .result) (c .before .before .before .before .index2 .result) (c .before .before .before .before .before .before .right-at .ensures) (c .before .before .before .before .before .index .ensures .0) (c .before .before .before .before .index2 .ensures .0)
 
--- src/serve.rt:88:9
+-- src/serve.rt:105:9
 short-reason-requires : tie.Need-short-reason-requires
 short-reason-requires c κs = search needs
 
--- src/serve.rt:89:5
+-- src/serve.rt:106:5
 take-requires : tie.Need-take-requires
 take-requires c κs =
-    let b = c .before .before .before .before .before .before .before .before .before .before .before .before .before .before .before .before .before .before .before in
+    let b = c .before .before .before .before .before .before .before .before .before .before .before .before .before .before .before in
     let pb = b .pre in
     take-ok (pb .basin) (now (b .args .stations)) (now (b .args .below)) (now (b .args .reservoirs)) (b .args .patterns) (now (b .args .rights)) (pb .setting) (b .args .i) (pb .place) (b .args .m) (pb .in-year) (now (b .args .flow)) (now (b .args .available)) (now (b .args .short)) (now (b .args .board)) (pb .river) (pb .board) (pb .marks) (pb .within) (c .before .before .before .before .before .before .before .before .before .before .right-at .result) (c .before .before .before .before .before .before .before .before .before .index .result) (c .before .before .before .before .before .before .before .before .index2 .result) (c .before .before .before .before .before .before .before .before .before .before .right-at .ensures) (c .before .before .before .before .before .before .before .before .before .index .ensures .0) (c .before .before .before .before .before .before .before .before .index2 .ensures .0) (c .before .before .before .before .before .before .demand-of .result) (c .before .before .before .before .before .before .demand-of .ensures) (c .before .before .before .river-part .result) (c .before .before .before .river-part .ensures)
 
--- src/serve.rt:90:5
+-- src/serve.rt:107:5
 fill-requires : tie.Need-fill-requires
 fill-requires c κs =
-    let b = c .before .before .before .before .before .before .before .before .before .before .before .before .before .before .before .before .before .before .before .before .before .before .before .before .before in
+    let b = c .before .before .before .before .before .before .before .before .before .before .before .before .before .before .before .before .before in
     let pb = b .pre in
-    fill-ok (pb .basin) (now (b .args .stations)) (now (b .args .below)) (now (b .args .reservoirs)) (b .args .patterns) (now (b .args .rights)) (pb .setting) (b .args .i) (pb .place) (b .args .m) (pb .in-year) (now (b .args .flow)) (now (b .args .available)) (now (b .args .short)) (now (b .args .board)) (pb .river) (pb .board) (pb .marks) (pb .within) (c .before .before .before .before .before .before .before .before .before .before .before .before .before .before .before .before .right-at .result) (c .before .before .before .before .before .before .before .before .before .before .before .before .before .before .before .index .result) (c .before .before .before .before .before .before .before .before .before .before .before .before .before .before .index2 .result) (c .before .before .before .before .before .before .before .before .before .before .before .before .before .before .before .before .right-at .ensures) (c .before .before .before .before .before .before .before .before .before .before .before .before .before .before .before .index .ensures .0) (c .before .before .before .before .before .before .before .before .before .before .before .before .before .before .index2 .ensures .0) (c .before .before .before .before .before .before .before .before .before .before .before .before .demand-of .result) (c .before .before .before .before .before .before .before .before .before .before .before .before .demand-of .ensures) (c .before .before .before .before .before .before .before .before .before .river-part .result) (c .before .before .before .before .before .before .before .before .before .river-part .ensures)
+    fill-ok (pb .basin) (now (b .args .stations)) (now (b .args .below)) (now (b .args .reservoirs)) (b .args .patterns) (now (b .args .rights)) (pb .setting) (b .args .i) (pb .place) (b .args .m) (pb .in-year) (now (b .args .flow)) (now (b .args .available)) (now (b .args .short)) (now (b .args .board)) (pb .river) (pb .board) (pb .marks) (pb .within) (c .before .before .before .before .before .before .before .before .before .before .before .before .right-at .result) (c .before .before .before .before .before .before .before .before .before .before .before .index .result) (c .before .before .before .before .before .before .before .before .before .before .index2 .result) (c .before .before .before .before .before .before .before .before .before .before .before .before .right-at .ensures) (c .before .before .before .before .before .before .before .before .before .before .before .index .ensures .0) (c .before .before .before .before .before .before .before .before .before .before .index2 .ensures .0) (c .before .before .before .before .before .before .before .before .demand-of .result) (c .before .before .before .before .before .before .before .before .demand-of .ensures) (c .before .before .before .before .before .river-part .result) (c .before .before .before .before .before .river-part .ensures)
 
--- src/serve.rt:91:69
+-- src/serve.rt:108:69
 sub-draw : tie.Need-sub-draw
 sub-draw c =
-    let b = c .before .before .before .before .before .before .before .before .before .before .before .before .before .before .before .before .before .before .before .before .before .before .before .before .before .before .before .before .before .before in
+    let b = c .before .before .before .before .before .before .before .before .before .before .before .before .before .before .before .before .before .before .before .before .before .before in
     let pb = b .pre in
-    omega (arith, part-ok (pb .basin) (now (b .args .stations)) (now (b .args .below)) (now (b .args .reservoirs)) (b .args .patterns) (now (b .args .rights)) (pb .setting) (b .args .i) (pb .place) (b .args .m) (pb .in-year) (now (b .args .flow)) (now (b .args .available)) (now (b .args .short)) (now (b .args .board)) (pb .river) (pb .board) (pb .marks) (pb .within) (c .before .before .before .before .before .before .before .before .before .before .before .before .before .before .before .before .before .before .before .before .before .right-at .result) (c .before .before .before .before .before .before .before .before .before .before .before .before .before .before .before .before .before .before .before .before .index .result) (c .before .before .before .before .before .before .before .before .before .before .before .before .before .before .before .before .before .before .before .index2 .result) (c .before .before .before .before .before .before .before .before .before .before .before .before .before .before .before .before .before .before .before .before .before .right-at .ensures) (c .before .before .before .before .before .before .before .before .before .before .before .before .before .before .before .before .before .before .before .before .index .ensures .0) (c .before .before .before .before .before .before .before .before .before .before .before .before .before .before .before .before .before .before .before .index2 .ensures .0) (c .before .before .before .before .before .before .before .before .before .before .before .before .before .before .before .before .before .demand-of .result) (c .before .before .before .before .before .before .before .before .before .before .before .before .before .before .before .before .before .demand-of .ensures) (c .before .before .before .before .before .before .before .before .before .before .before .before .before .before .river-part .result) (c .before .before .before .before .before .before .before .before .before .before .before .before .before .before .river-part .ensures))
+    omega (arith, part-ok (pb .basin) (now (b .args .stations)) (now (b .args .below)) (now (b .args .reservoirs)) (b .args .patterns) (now (b .args .rights)) (pb .setting) (b .args .i) (pb .place) (b .args .m) (pb .in-year) (now (b .args .flow)) (now (b .args .available)) (now (b .args .short)) (now (b .args .board)) (pb .river) (pb .board) (pb .marks) (pb .within) (c .before .before .before .before .before .before .before .before .before .before .before .before .before .before .before .before .before .right-at .result) (c .before .before .before .before .before .before .before .before .before .before .before .before .before .before .before .before .index .result) (c .before .before .before .before .before .before .before .before .before .before .before .before .before .before .before .index2 .result) (c .before .before .before .before .before .before .before .before .before .before .before .before .before .before .before .before .before .right-at .ensures) (c .before .before .before .before .before .before .before .before .before .before .before .before .before .before .before .before .index .ensures .0) (c .before .before .before .before .before .before .before .before .before .before .before .before .before .before .before .index2 .ensures .0) (c .before .before .before .before .before .before .before .before .before .before .before .before .before .demand-of .result) (c .before .before .before .before .before .before .before .before .before .before .before .before .before .demand-of .ensures) (c .before .before .before .before .before .before .before .before .before .before .river-part .result) (c .before .before .before .before .before .before .before .before .before .before .river-part .ensures))
 
--- src/serve.rt:91:9
+-- src/serve.rt:108:9
 draw-requires : tie.Need-draw-requires
 draw-requires c κs =
-    let b = c .before .before .before .before .before .before .before .before .before .before .before .before .before .before .before .before .before .before .before .before .before .before .before .before .before .before .before .before .before .before in
+    let b = c .before .before .before .before .before .before .before .before .before .before .before .before .before .before .before .before .before .before .before .before .before .before in
     let pb = b .pre in
-    draw-ok (pb .basin) (now (b .args .stations)) (now (b .args .below)) (now (b .args .reservoirs)) (b .args .patterns) (now (b .args .rights)) (pb .setting) (b .args .i) (pb .place) (b .args .m) (pb .in-year) (now (b .args .flow)) (now (b .args .available)) (now (b .args .short)) (now (b .args .board)) (pb .river) (pb .board) (pb .marks) (pb .within) (c .before .before .before .before .before .before .before .before .before .before .before .before .before .before .before .before .before .before .before .before .before .right-at .result) (c .before .before .before .before .before .before .before .before .before .before .before .before .before .before .before .before .before .before .before .before .index .result) (c .before .before .before .before .before .before .before .before .before .before .before .before .before .before .before .before .before .before .before .index2 .result) (c .before .before .before .before .before .before .before .before .before .before .before .before .before .before .before .before .before .before .before .before .before .right-at .ensures) (c .before .before .before .before .before .before .before .before .before .before .before .before .before .before .before .before .before .before .before .before .index .ensures .0) (c .before .before .before .before .before .before .before .before .before .before .before .before .before .before .before .before .before .before .before .index2 .ensures .0) (c .before .before .before .before .before .before .before .before .before .before .before .before .before .before .before .before .before .demand-of .result) (c .before .before .before .before .before .before .before .before .before .before .before .before .before .before .before .before .before .demand-of .ensures) (c .before .before .before .before .before .before .before .before .before .before .before .before .before .before .river-part .result) (c .before .before .before .before .before .before .before .before .before .before .before .before .before .before .river-part .ensures) _ _ _ (c .before .before .before .before .before .before .before .before .before .before .take .ensures) (c .before .before .before .before .fill .ensures) (c .before .before .before .before .before .before .before .before .before .before .take .kept .1 .0) (c .before .before .before .before .before .before .before .before .before .before .take .kept .1 .1 .0)
+    draw-ok (pb .basin) (now (b .args .stations)) (now (b .args .below)) (now (b .args .reservoirs)) (b .args .patterns) (now (b .args .rights)) (pb .setting) (b .args .i) (pb .place) (b .args .m) (pb .in-year) (now (b .args .flow)) (now (b .args .available)) (now (b .args .short)) (now (b .args .board)) (pb .river) (pb .board) (pb .marks) (pb .within) (c .before .before .before .before .before .before .before .before .before .before .before .before .before .before .before .before .before .right-at .result) (c .before .before .before .before .before .before .before .before .before .before .before .before .before .before .before .before .index .result) (c .before .before .before .before .before .before .before .before .before .before .before .before .before .before .before .index2 .result) (c .before .before .before .before .before .before .before .before .before .before .before .before .before .before .before .before .before .right-at .ensures) (c .before .before .before .before .before .before .before .before .before .before .before .before .before .before .before .before .index .ensures .0) (c .before .before .before .before .before .before .before .before .before .before .before .before .before .before .before .index2 .ensures .0) (c .before .before .before .before .before .before .before .before .before .before .before .before .before .demand-of .result) (c .before .before .before .before .before .before .before .before .before .before .before .before .before .demand-of .ensures) (c .before .before .before .before .before .before .before .before .before .before .river-part .result) (c .before .before .before .before .before .before .before .before .before .before .river-part .ensures) _ _ _ (c .before .before .before .before .before .before .take .ensures) (c .before .before .before .before .fill .ensures)
 
--- src/serve.rt:92:5
+-- src/serve.rt:109:5
 finish-requires : tie.Need-finish-requires
 finish-requires c κs =
-    let b = c .before .before .before .before .before .before .before .before .before .before .before .before .before .before .before .before .before .before .before .before .before .before .before .before .before .before .before .before .before .before .before .before .before .before .before .before .before .before .before in
+    let b = c .before .before .before .before .before .before .before .before .before .before .before .before .before .before .before .before .before .before .before .before .before .before .before .before .before .before .before .before .before in
     let pb = b .pre in
-    finish-ok (pb .basin) (now (b .args .stations)) (now (b .args .below)) (now (b .args .reservoirs)) (b .args .patterns) (now (b .args .rights)) (pb .setting) (b .args .i) (pb .place) (b .args .m) (pb .in-year) (now (b .args .flow)) (now (b .args .available)) (now (b .args .short)) (now (b .args .board)) (pb .river) (pb .board) (pb .marks) (pb .within) (c .before .before .before .before .before .before .before .before .before .before .before .before .before .before .before .before .before .before .before .before .before .before .before .before .before .before .before .before .before .before .right-at .result) (c .before .before .before .before .before .before .before .before .before .before .before .before .before .before .before .before .before .before .before .before .before .before .before .before .before .before .before .before .before .index .result) (c .before .before .before .before .before .before .before .before .before .before .before .before .before .before .before .before .before .before .before .before .before .before .before .before .before .before .before .before .index2 .result) (c .before .before .before .before .before .before .before .before .before .before .before .before .before .before .before .before .before .before .before .before .before .before .before .before .before .before .before .before .before .before .right-at .ensures) (c .before .before .before .before .before .before .before .before .before .before .before .before .before .before .before .before .before .before .before .before .before .before .before .before .before .before .before .before .before .index .ensures .0) (c .before .before .before .before .before .before .before .before .before .before .before .before .before .before .before .before .before .before .before .before .before .before .before .before .before .before .before .before .index2 .ensures .0) (c .before .before .before .before .before .before .before .before .before .before .before .before .before .before .before .before .before .before .before .before .before .before .before .before .before .before .demand-of .result) (c .before .before .before .before .before .before .before .before .before .before .before .before .before .before .before .before .before .before .before .before .before .before .before .before .before .before .demand-of .ensures) (c .before .before .before .before .before .before .before .before .before .before .before .before .before .before .before .before .before .before .before .before .before .before .before .river-part .result) (c .before .before .before .before .before .before .before .before .before .before .before .before .before .before .before .before .before .before .before .before .before .before .before .river-part .ensures) _ _ _ (c .before .before .before .before .before .before .before .before .before .before .before .before .before .before .before .before .before .before .before .take .ensures) (c .before .before .before .before .before .before .before .before .before .before .before .before .before .fill .ensures) (c .before .before .before .before .before .before .before .before .before .before .before .before .before .before .before .before .before .before .before .take .kept .1 .0) (c .before .before .before .before .before .before .before .before .before .before .before .before .before .before .before .before .before .before .before .take .kept .1 .1 .0) (c .before .before .before .before .before .before .before .before .draw .result) _ _ (c .before .before .before .before .before .before .before .before .draw .ensures) (c .before .before .before .before .before .before .before .before .draw .kept .1 .1 .0)
+    finish-ok (pb .basin) (now (b .args .stations)) (now (b .args .below)) (now (b .args .reservoirs)) (b .args .patterns) (now (b .args .rights)) (pb .setting) (b .args .i) (pb .place) (b .args .m) (pb .in-year) (now (b .args .flow)) (now (b .args .available)) (now (b .args .short)) (now (b .args .board)) (pb .river) (pb .board) (pb .marks) (pb .within) (c .before .before .before .before .before .before .before .before .before .before .before .before .before .before .before .before .before .before .before .before .before .before .before .before .right-at .result) (c .before .before .before .before .before .before .before .before .before .before .before .before .before .before .before .before .before .before .before .before .before .before .before .index .result) (c .before .before .before .before .before .before .before .before .before .before .before .before .before .before .before .before .before .before .before .before .before .before .index2 .result) (c .before .before .before .before .before .before .before .before .before .before .before .before .before .before .before .before .before .before .before .before .before .before .before .before .right-at .ensures) (c .before .before .before .before .before .before .before .before .before .before .before .before .before .before .before .before .before .before .before .before .before .before .before .index .ensures .0) (c .before .before .before .before .before .before .before .before .before .before .before .before .before .before .before .before .before .before .before .before .before .before .index2 .ensures .0) (c .before .before .before .before .before .before .before .before .before .before .before .before .before .before .before .before .before .before .before .before .demand-of .result) (c .before .before .before .before .before .before .before .before .before .before .before .before .before .before .before .before .before .before .before .before .demand-of .ensures) (c .before .before .before .before .before .before .before .before .before .before .before .before .before .before .before .before .before .river-part .result) (c .before .before .before .before .before .before .before .before .before .before .before .before .before .before .before .before .before .river-part .ensures) _ _ _ (c .before .before .before .before .before .before .before .before .before .before .before .before .before .take .ensures) (c .before .before .before .before .before .before .before .before .before .before .before .fill .ensures) (c .before .before .before .before .before .before .draw .result) _ _ (c .before .before .before .before .before .before .draw .ensures)
 
--- src/serve.rt:64:1
+-- src/serve.rt:81:1
 same-length : tie.Need-same-length
-same-length c = c .before .before .before .before .before .before .before .before .finish .ensures .gave .flow-size ∙ c .before .before .before .before .before .before .before .before .before .before .before .before .before .before .before .before .before .draw .kept .1 .1 .0 ∙ c .before .before .before .before .before .before .before .before .before .before .before .before .before .before .before .before .before .before .before .before .before .before .before .before .before .before .before .before .take .kept .1 .0
+same-length c = search needs
 
--- src/serve.rt:64:1
-same-length-2 : tie.Need-same-length-2
-same-length-2 c = search needs
-
--- src/serve.rt:64:1
-same-length-3 : tie.Need-same-length-3
-same-length-3 c = search needs
-
--- src/serve.rt:64:1
-same-length-4 : tie.Need-same-length-4
-same-length-4 c = search needs
-
--- src/serve.rt:64:1
+-- src/serve.rt:81:1
 returns : tie.Need-returns
 returns c =
-    let b = c .before .before .before .before .before .before .before .before .before .before .before .before .before .before .before .before .before .before .before .before .before .before .before .before .before .before .before .before .before .before .before .before .before .before .before .before .before .before .before .before .before .before .before .before .before .before .before .before in
+    let b = c .before .before .before .before .before .before .before .before .before .before .before .before .before .before .before .before .before .before .before .before .before .before .before .before .before .before .before .before .before .before .before .before in
     let pb = b .pre in
-    λ bb ww. turned bb (now (b .args .stations)) (now (b .args .below)) (now (b .args .reservoirs)) (b .args .patterns) (now (b .args .rights)) ww (b .args .i) (pb .place) (b .args .m) (pb .in-year) (now (b .args .flow)) (now (b .args .available)) (now (b .args .short)) (now (b .args .board)) (pb .river) (pb .board) (pb .marks) (within-same (now (b .args .stations)) (now (b .args .below)) (now (b .args .reservoirs)) (b .args .patterns) (now (b .args .rights)) (pb .basin) bb (pb .setting) ww (now (b .args .board)) (pb .within)) (c .before .before .before .before .before .before .before .before .before .before .before .before .before .before .before .before .before .before .before .before .before .before .before .before .before .before .before .before .before .before .before .before .before .before .before .before .before .before .before .right-at .result) (c .before .before .before .before .before .before .before .before .before .before .before .before .before .before .before .before .before .before .before .before .before .before .before .before .before .before .before .before .before .before .before .before .before .before .before .before .before .before .index .result) (c .before .before .before .before .before .before .before .before .before .before .before .before .before .before .before .before .before .before .before .before .before .before .before .before .before .before .before .before .before .before .before .before .before .before .before .before .before .index2 .result) (c .before .before .before .before .before .before .before .before .before .before .before .before .before .before .before .before .before .before .before .before .before .before .before .before .before .before .before .before .before .before .before .before .before .before .before .before .before .before .before .right-at .ensures) (c .before .before .before .before .before .before .before .before .before .before .before .before .before .before .before .before .before .before .before .before .before .before .before .before .before .before .before .before .before .before .before .before .before .before .before .before .before .before .index .ensures .0) (c .before .before .before .before .before .before .before .before .before .before .before .before .before .before .before .before .before .before .before .before .before .before .before .before .before .before .before .before .before .before .before .before .before .before .before .before .before .index2 .ensures .0) (c .before .before .before .before .before .before .before .before .before .before .before .before .before .before .before .before .before .before .before .before .before .before .before .before .before .before .before .before .before .before .before .before .before .before .before .demand-of .result) (c .before .before .before .before .before .before .before .before .before .before .before .before .before .before .before .before .before .before .before .before .before .before .before .before .before .before .before .before .before .before .before .before .before .before .before .demand-of .ensures) (c .before .before .before .before .before .before .before .before .before .before .before .before .before .before .before .before .before .before .before .before .before .before .before .before .before .before .before .before .before .before .before .before .river-part .result) (c .before .before .before .before .before .before .before .before .before .before .before .before .before .before .before .before .before .before .before .before .before .before .before .before .before .before .before .before .before .before .before .before .river-part .ensures) _ _ _ (c .before .before .before .before .before .before .before .before .before .before .before .before .before .before .before .before .before .before .before .before .before .before .before .before .before .before .before .before .take .ensures) (c .before .before .before .before .before .before .before .before .before .before .before .before .before .before .before .before .before .before .before .before .before .before .fill .ensures) (c .before .before .before .before .before .before .before .before .before .before .before .before .before .before .before .before .before .before .before .before .before .before .before .before .before .before .before .before .take .kept .1 .0) (c .before .before .before .before .before .before .before .before .before .before .before .before .before .before .before .before .before .before .before .before .before .before .before .before .before .before .before .before .take .kept .1 .1 .0) (c .before .before .before .before .before .before .before .before .before .before .before .before .before .before .before .before .before .draw .result) _ _ (c .before .before .before .before .before .before .before .before .before .before .before .before .before .before .before .before .before .draw .ensures) (c .before .before .before .before .before .before .before .before .before .before .before .before .before .before .before .before .before .draw .kept .1 .1 .0) (c .before .before .before .before .before .before .before .before .before .before .before .before .before .before .before .before .before .before .before .before .before .before .before .before .before .before .before .before .before .before .before .short-reason .result) (c .before .before .before .before .before .before .before .before .before .before .before .before .before .before .before .before .before .before .before .before .before .before .before .before .before .before .before .before .before .before .before .short-reason .ensures) _ _ _ _ (c .before .before .before .before .before .before .before .before .finish .result) (c .before .before .before .before .before .before .before .before .finish .ensures)
+    λ bb ww. turned bb (now (b .args .stations)) (now (b .args .below)) (now (b .args .reservoirs)) (b .args .patterns) (now (b .args .rights)) ww (b .args .i) (pb .place) (b .args .m) (pb .in-year) (now (b .args .flow)) (now (b .args .available)) (now (b .args .short)) (now (b .args .board)) (pb .river) (pb .board) (pb .marks) (within-same (now (b .args .stations)) (now (b .args .below)) (now (b .args .reservoirs)) (b .args .patterns) (now (b .args .rights)) (pb .basin) bb (pb .setting) ww (now (b .args .board)) (pb .within)) (c .before .before .before .before .before .before .before .before .before .before .before .before .before .before .before .before .before .before .before .before .before .before .before .before .before .before .before .right-at .result) (c .before .before .before .before .before .before .before .before .before .before .before .before .before .before .before .before .before .before .before .before .before .before .before .before .before .before .index .result) (c .before .before .before .before .before .before .before .before .before .before .before .before .before .before .before .before .before .before .before .before .before .before .before .before .before .index2 .result) (c .before .before .before .before .before .before .before .before .before .before .before .before .before .before .before .before .before .before .before .before .before .before .before .before .before .before .before .right-at .ensures) (c .before .before .before .before .before .before .before .before .before .before .before .before .before .before .before .before .before .before .before .before .before .before .before .before .before .before .index .ensures .0) (c .before .before .before .before .before .before .before .before .before .before .before .before .before .before .before .before .before .before .before .before .before .before .before .before .before .index2 .ensures .0) (c .before .before .before .before .before .before .before .before .before .before .before .before .before .before .before .before .before .before .before .before .before .before .before .demand-of .result) (c .before .before .before .before .before .before .before .before .before .before .before .before .before .before .before .before .before .before .before .before .before .before .before .demand-of .ensures) (c .before .before .before .before .before .before .before .before .before .before .before .before .before .before .before .before .before .before .before .before .river-part .result) (c .before .before .before .before .before .before .before .before .before .before .before .before .before .before .before .before .before .before .before .before .river-part .ensures) _ _ _ (c .before .before .before .before .before .before .before .before .before .before .before .before .before .before .before .before .take .ensures) (c .before .before .before .before .before .before .before .before .before .before .before .before .before .before .fill .ensures) (c .before .before .before .before .before .before .before .before .before .draw .result) _ _ (c .before .before .before .before .before .before .before .before .before .draw .ensures) (c .before .before .before .before .before .before .before .before .before .before .before .before .before .before .before .before .before .before .before .short-reason .result) (c .before .before .before .before .before .before .before .before .before .before .before .before .before .before .before .before .before .before .before .short-reason .ensures) _ _ _ _ (c .before .before .finish .result) (c .before .before .finish .ensures)
 
 pub serve-right-spec : {M : Type 1} → statement M
 serve-right-spec =
@@ -127,7 +98,4 @@ serve-right-spec =
     draw-requires
     finish-requires
     same-length
-    same-length-2
-    same-length-3
-    same-length-4
     returns)
