@@ -8,6 +8,7 @@ pub mod Opened
 pub mod Closing
 pub mod Reporting
 pub mod After
+pub mod Running
 pub mod Settling
 pub mod Rows
 pub mod Theorems

@@ -21,7 +21,7 @@ use Rattle.turns.proofs.Openings.{opened-place}
 use Rattle.ledger.specs.Board.{monthAt, storageAt, marksAt, takenAt, dueAt, carriedOf}
 use Rattle.ledger.proofs.Board.{bit-none}
 
-falses : (n i : ℕ) → _≡_ {A = Bool} (getD (replicate n false) i false) false
+pub falses : (n i : ℕ) → _≡_ {A = Bool} (getD (replicate n false) i false) false
 falses zero i = refl
 falses (suc n) zero = refl
 falses (suc n) (suc i) = falses n i

@@ -13,7 +13,7 @@ use Rattle.basin.specs.Records.{reservoirCount}
 use Rattle.turns.specs.Losses.{Lost}
 use Rattle.ledger.specs.Steps.{CanTell, RowsTold, Ended}
 
-module _ (n at : ℕ) (f a rp : List ℕ) (c : CanTell n at f a rp) where
+module _ (n at : ℕ) (f a rp : List ℕ) (c : CanTell n at rp) where
   pub told-none : RowsTold 0 at f a rp rp
   told-none = record { flow = λ w h. absurd (omega (arith, h)); available = λ w h. absurd (omega (arith, h)); front = λ p h. refl; beyond = λ p h. refl; size = refl }
 

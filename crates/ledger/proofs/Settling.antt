@@ -9,6 +9,7 @@ use native.Mathlib.Omega.{arith}
 use lib.Dec.{leb, ltb, eqb}
 use lib.ListN.{length, getD, List·getD-eq-default}
 use Rattle.general.specs.Sums.{only, sumOver}
+use Rattle.general.specs.Tables.{tab}
 use Rattle.general.specs.Tests.{_and_, firstAt}
 use Rattle.general.proofs.Loops.{search-here, search-on, search-over}
 use Rattle.general.proofs.Tests.{ltb-yes, ltb-no, not-lt-of, eq-of, le-of, both-of, only-le}
@@ -17,6 +18,7 @@ use Rattle.rules.specs.Basin.{Basin, rows}
 use Rattle.rules.specs.Turn.{Turn}
 use Rattle.rules.specs.Month.{isShort, shortCount}
 use Rattle.rules.specs.Tally.{Answer, reportLength, overLimit, overAnswer}
+use Rattle.rules.proofs.Months.{month-length}
 use Rattle.basin.specs.declared.Verdict.{Verdict}
 use Rattle.basin.specs.declared.Verdict.the-variants.{Accepted, Layout, Station, Reservoir, Pattern, Right}
 use Rattle.basin.specs.File.{sectionOf}
@@ -24,7 +26,7 @@ use Rattle.basin.specs.Records.{rowsOf, reservoirCount, rightCount, basinOf}
 use Rattle.basin.specs.Check.{checkOf}
 use Rattle.basin.proofs.Accepted.{accepted-facts}
 use Rattle.basin.proofs.Rows.{rows-are}
-use Rattle.ledger.specs.Board.{possible}
+use Rattle.ledger.specs.Board.{dueAt, carriedOf, possible}
 use Rattle.ledger.specs.Report.{nameIn}
 use Rattle.ledger.specs.Calls.{accepted, verdictRefusal, fileRefusal, orElse, unless, boardFits, listsFit, monthRefusal, runOf, Outcome, monthSettled, monthOf, NamesAllowed, MonthMeets}
 use Rattle.ledger.specs.Bodies.{bodies, Counted}
@@ -195,7 +197,28 @@ module _ (f runoff board report : List ℕ) where
     month-made bd rp c r = record { equation = sym (run-is bd rp c r); names = subst (λ (o : Option Answer). NamesAllowed o (basinOf f) (runOf (basinOf f) runoff board) (nameIn rp)) (sym none-refused) (r .names) }
 
 -- the rights short are at most all
-pub shorts-most : (ts : List Turn) → shortCount ts ≤ length ts
+shorts-most : (ts : List Turn) → shortCount ts ≤ length ts
 unfolding shortCount sumOver
 shorts-most [] = omega arith
 shorts-most (t ∷ ts) = omega (arith, only-le (isShort t) 1, shorts-most ts)
+
+-- ---- at the parts of the file as the code has them
+
+module _ (f runoff board report : List ℕ) (k : Clear f runoff board report) where
+  module _ {st rs ps ri : List ℕ} (e₀ : st ≡ sectionOf f 0) (e₁ : rs ≡ sectionOf f 1) (e₂ : ps ≡ sectionOf f 2) (e₃ : ri ≡ sectionOf f 3) where
+    pub can-run-at : CanRun st rs ps ri runoff board report
+    can-run-at = rw (e₀, e₁, e₂, e₃) (can-run f runoff board report k)
+
+    pub ran-at : (bd rp : List ℕ) (c : ℕ) → Ran (bodies st rs ps ri) runoff board report bd rp c → Ran (basinOf f) runoff board report bd rp c
+    ran-at bd rp c r = subst (λ (x : Basin). Ran x runoff board report bd rp c) ((λ z. bodies (e₀ z) (e₁ z) (e₂ z) (e₃ z)) ∙ sym (basin-bodies f)) r
+
+  pub shorts-few : (bd rp : List ℕ) (c : ℕ) → Ran (basinOf f) runoff board report bd rp c → c ≤ 256
+  unfolding runOf
+  shorts-few bd rp c r =
+      omega (
+        arith,
+        r .shorts,
+        shorts-most ((runOf (basinOf f) runoff board) .turns),
+        month-length (basinOf f) (carriedOf (basinOf f) board) runoff (tab (rows (basinOf f)) (λ w. dueAt board w 1)),
+        accepted-facts f (k .file-ok) .few-rights,
+      )

@@ -18,10 +18,8 @@ use Rattle.ledger.specs.Bodies.{bodies}
 
 -- ---- flow and available flow of n rows, told in the report from `at` on
 
-pub record CanTell (n at : ℕ) (f a rp : List ℕ) : Type 0 where
+pub record CanTell (n at : ℕ) (rp : List ℕ) : Type 0 where
   pub few : n ≤ 64
-  pub flows : n ≤ length f
-  pub availables : n ≤ length a
   pub places : at + 2 * n ≤ length rp
 
 -- from rp to rp′ the first n rows have been told
@@ -34,11 +32,11 @@ pub record RowsTold (n at : ℕ) (f a rp rp′ : List ℕ) : Type 0 where
 
 -- ---- the end of a month: the rows are told, the reservoirs lose their evaporation, m goes on
 
-pub record CanEnd (rs : List ℕ) (n at : ℕ) (f a bd rp : List ℕ) : Type 0 where
+pub record CanEnd (rs : List ℕ) (n at : ℕ) (bd rp : List ℕ) : Type 0 where
   pub few : reservoirCount rs ≤ 8
   pub in-year : getD bd 0 0 < 12
   pub size : length bd ≡ 970
-  pub tell : CanTell n at f a rp
+  pub tell : CanTell n at rp
   pub places : at + 2 * n + reservoirCount rs ≤ length rp
 
 pub record Ended (rs : List ℕ) (n at : ℕ) (f a bd rp bd′ rp′ : List ℕ) : Type 0 where

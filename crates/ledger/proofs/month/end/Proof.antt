@@ -10,60 +10,56 @@ use Rattle.turns.proofs.losses.evaporate.Reads as evaporate-reads
 use mathlib.Core.Path.{_≡_, refl, sym, ap, _∙_, subst}
 use Prim.Native.Nat.{ℕ, _+_, _-_, _*_, _≤_, _<_}
 use native.Mathlib.Omega.{arith}
-use lib.ListN.{length, getD, set}
 use denote.Ref.{now}
-use Rattle.rules.specs.Month.{nextMonth}
-use Rattle.basin.specs.Records.{reservoirCount}
-use Rattle.turns.specs.Losses.{Lost}
 use Rattle.ledger.proofs.Rows.{ended-of}
 
--- src/month.rt:51:13
+-- src/month.rt:91:13
 slice-read-m : tie.Need-slice-read-m
-slice-read-m c = omega (arith, c .before .before .before .before .before .before .pre .size)
+slice-read-m c = omega (arith, c .before .before .before .before .pre .size)
 
--- src/month.rt:52:5
+-- src/month.rt:92:5
 put-rows-requires : tie.Need-put-rows-requires
-put-rows-requires c κs = c .before .before .before .before .before .before .before .pre .tell
+put-rows-requires c κs = c .before .before .before .before .before .pre .tell
 
--- src/month.rt:53:27
+-- src/month.rt:93:27
 in-year-requires : tie.Need-in-year-requires
-in-year-requires c κs = c .before .before .before .before .before .before .before .before .before .before .pre .in-year
+in-year-requires c κs = c .before .before .before .before .before .before .before .before .pre .in-year
 
--- src/month.rt:53:59
+-- src/month.rt:93:59
 mul-evaporate : tie.Need-mul-evaporate
-mul-evaporate c = omega (arith, c .before .before .before .before .before .before .before .before .before .before .before .before .before .pre .tell .few)
+mul-evaporate c = omega (arith, c .before .before .before .before .before .before .before .before .before .before .before .pre .tell .few)
 
--- src/month.rt:53:54
+-- src/month.rt:93:54
 add-evaporate : tie.Need-add-evaporate
-add-evaporate c = omega (arith, c .before .before .before .before .before .before .before .before .before .before .before .before .before .pre .tell .places)
+add-evaporate c = omega (arith, c .before .before .before .before .before .before .before .before .before .before .before .pre .tell .places)
 
--- src/month.rt:53:5
+-- src/month.rt:93:5
 evaporate-requires : tie.Need-evaporate-requires
 evaporate-requires c κs =
-    let p = c .before .before .before .before .before .before .before .before .before .before .before .before .before .pre in
+    let p = c .before .before .before .before .before .before .before .before .before .before .before .pre in
     let told = c .before .before .before .before .before .put-rows .ensures in
     record { few = p .few; in-year = omega (arith, p .in-year, c .before .before .in-year .ensures); size = p .size; places = omega (arith, p .places, told .size) }
 
--- src/month.rt:54:16
+-- src/month.rt:94:16
 next-month-requires : tie.Need-next-month-requires
-next-month-requires c κs = c .before .before .before .before .before .before .before .before .before .before .before .before .before .before .before .before .before .before .pre .in-year
+next-month-requires c κs = c .before .before .before .before .before .before .before .before .before .before .before .before .before .before .before .before .pre .in-year
 
--- src/month.rt:54:5
+-- src/month.rt:94:5
 slice-write-board : tie.Need-slice-write-board
-slice-write-board c = omega (arith, c .before .before .before .before .before .before .before .before .before .before .before .before .before .before .before .before .before .before .before .pre .size, c .before .before .before .before .before .evaporate .ensures .size)
+slice-write-board c = omega (arith, c .before .before .before .before .before .before .before .before .before .before .before .before .before .before .before .before .before .pre .size, c .before .before .before .before .before .evaporate .ensures .size)
 
--- src/month.rt:39:1
+-- src/month.rt:79:1
 same-length : tie.Need-same-length
 same-length c = search needs
 
--- src/month.rt:39:1
+-- src/month.rt:79:1
 same-length-2 : tie.Need-same-length-2
 same-length-2 c = search needs
 
--- src/month.rt:39:1
+-- src/month.rt:79:1
 returns : tie.Need-returns
 returns c =
-    let s = c .before .before .before .before .before .before .before .before .before .before .before .before .before .before .before .before .before .before .before .args in
+    let s = c .before .before .before .before .before .before .before .before .before .before .before .before .before .before .before .before .before .args in
     ended-of (now (s .reservoirs)) (s .n) (s .at) (now (s .flow)) (now (s .available)) (now (s .board)) (now (s .report)) _ _ _ _ _ (c .before .before .before .before .before .before .before .before .before .before .before .put-rows .ensures) (c .before .before .before .before .before .before .before .before .in-year .ensures) (c .before .before .before .before .before .evaporate .ensures) (c .next-month .ensures)
 
 pub end-spec : {M : Type 1} → statement M
