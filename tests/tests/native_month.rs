@@ -86,8 +86,6 @@ struct Compared {
     reasons: [usize; 4],
     /// Rights whose station is another one than the plain engine names.
     other_station: usize,
-    /// Storage rights that would have stored something but for a mark.
-    blocked: usize,
 }
 
 impl Compared {
@@ -133,14 +131,12 @@ impl Compared {
         let refused: usize = self.numbers[1..].iter().sum();
         println!(
             "{what}: {} calls, {} accepted, {refused} refused, by number 1 to 8 {:?}; rights by \
-             reason 0 to 3 {:?}, {} with another station than the plain engine's; {} storage \
-             rights blocked by a mark",
+             reason 0 to 3 {:?}, {} with another station than the plain engine's",
             self.calls,
             self.numbers[0],
             &self.numbers[1..],
             self.reasons,
-            self.other_station,
-            self.blocked
+            self.other_station
         );
     }
 }
@@ -247,11 +243,24 @@ fn first_board(river: &River, rng: &mut Rng) -> Vec<u64> {
     board
 }
 
+/// What happened in the lists, beside the comparison.
+#[derive(Default, Debug)]
+struct Met {
+    lists: usize,
+    /// Lists of at least 36 accepted months.
+    long_lists: usize,
+    /// Storage rights that would have stored something but for a mark.
+    blocked: usize,
+    /// Calls spoilt in each way.
+    spoilt: [usize; SPOILS.len()],
+}
+
 /// A list of calls on one river, each month on the board that the month before left.
-fn compare_list(seed: u64, compared: &mut Compared, spoilt: &mut [usize]) {
+fn compare_list(seed: u64, compared: &mut Compared, met: &mut Met) {
     let rng = &mut Rng::new(seed);
     let river = river_of_list(seed, rng);
     let mut board = first_board(&river, rng);
+    let mut months = 0;
     for number in 0..*rng.pick(&[15, 40, 50, 75]) {
         let mut call = Call::of(&river, &board, rng);
         let mut at = format!("RIVER_SEED={seed}, call {number}");
@@ -261,39 +270,50 @@ fn compare_list(seed: u64, compared: &mut Compared, spoilt: &mut [usize]) {
             let (name, spoil) = SPOILS[which];
             spoil(&mut call, &river, rng);
             at += &format!(", {name}");
-            spoilt[which] += 1;
+            met.spoilt[which] += 1;
         }
         let answer = compared.compare(&mut call, &at);
         if spoils == 0 {
             assert_eq!(answer.0, 0, "{at}: refused");
-            compared.blocked += blocked_by_marks(&river.basin, &board, &call.report, &at);
+            met.blocked += blocked_by_marks(&river.basin, &board, &call.report, &at);
             board = call.board;
+            months += 1;
         }
     }
+    met.lists += 1;
+    met.long_lists += (months >= 36) as usize;
 }
 
 #[test]
 fn lists_of_months() {
     let calls = from_environment("RIVER_CALLS").map_or(CALLS, |calls| calls as usize);
     let mut compared = Compared::default();
-    let mut spoilt = vec![0; SPOILS.len()];
+    let mut met = Met::default();
     let mut seed = first_seed();
     while compared.calls < calls {
-        compare_list(seed, &mut compared, &mut spoilt);
+        compare_list(seed, &mut compared, &mut met);
         seed += 1;
     }
-    println!("lists of months: seeds {} to {}", first_seed(), seed - 1);
     compared.print("lists of months");
-    for ((name, _), times) in SPOILS.iter().zip(&spoilt) {
+    println!(
+        "    {} lists, seeds {} to {}, {} of them with 36 months or more; {} times a mark kept a \
+         storage right from storing",
+        met.lists,
+        first_seed(),
+        seed - 1,
+        met.long_lists,
+        met.blocked
+    );
+    for ((name, _), times) in SPOILS.iter().zip(&met.spoilt) {
         println!("    {times} calls: {name}");
     }
     // A short run by hand need not meet everything.
     if calls >= CALLS {
         assert!(compared.numbers[0] >= 50_000, "{compared:?}");
-        assert!(compared.numbers.iter().all(|&times| times > 100), "{compared:?}");
+        assert!(compared.numbers.iter().all(|&times| times > 500), "{compared:?}");
         assert!(compared.reasons.iter().all(|&times| times > 10_000), "{compared:?}");
-        assert!(compared.blocked > 1000, "{compared:?}");
-        assert!(spoilt.iter().all(|&times| times > 1000), "{spoilt:?}");
+        assert!(met.long_lists > 1000 && met.blocked > 10_000, "{met:?}");
+        assert!(met.spoilt.iter().all(|&times| times > 5000), "{met:?}");
     }
 }
 
