@@ -9,11 +9,12 @@ use river_tests::{engine, examples, ffi};
 use std::hint::black_box;
 use std::time::Instant;
 
-const ROUNDS: usize = 201;
-/// A round repeats its months until it is long against the clock's step.
+const ROUNDS: usize = 151;
+/// A round repeats the run of months until it is long against the clock's step.
 const SHORTEST_ROUND_NS: f64 = 100_000.0;
-/// Months of a round: each has other runoff, and the board that the one before left.
-const MONTHS: usize = 24;
+/// Months of a run: each has other runoff, and the board that the one before left. So many that
+/// a processor cannot learn a small basin's course by heart.
+const MONTHS: usize = 60;
 
 /// How much water there can be, in tenths of what is asked. A tight river is to leave part of
 /// the rights short, not all: in a small basin one short right soon calls all others.
@@ -45,18 +46,17 @@ fn bench(name: &str, basin: &Basin, tight: u64) {
     for (river, tenths) in [("tight", tight), ("loose", LOOSE)] {
         let mut job = Job::new(basin, tenths);
         let short = job.assert_both_alike() as f64 / (MONTHS * basin.rights.len()) as f64;
-        let (native_ns, plain_ns) = job.time();
+        let [native_ns, plain_ns, ratio] = job.time();
         println!(
-            "{name} {river} {} {} {:.1} {native_ns:.0} {plain_ns:.0} {:.3}",
+            "{name} {river} {} {} {:.1} {native_ns:.0} {plain_ns:.0} {ratio:.3}",
             basin.stations.len(),
             basin.rights.len(),
-            100.0 * short,
-            native_ns / plain_ns
+            100.0 * short
         );
     }
 }
 
-/// The months of a round, and room for the board and the report of both engines.
+/// The run of months, and room for the board and the report of both engines.
 struct Job {
     file: Vec<u8>,
     rights: usize,
@@ -112,16 +112,18 @@ impl Job {
         report
     }
 
-    /// Median nanoseconds of a call, native and plain.
-    fn time(&mut self) -> (f64, f64) {
+    /// Medians: nanoseconds of a native call, of a plain one, and the ratio of two rounds that
+    /// follow each other, which a machine that grows slower or faster meanwhile leaves alone.
+    fn time(&mut self) -> [f64; 3] {
         let once = self.round(1, engine::month) * MONTHS as f64;
         let times = (SHORTEST_ROUND_NS / once).ceil() as usize;
-        let (mut native, mut plain) = (Vec::new(), Vec::new());
+        let (mut native, mut plain, mut ratios) = (Vec::new(), Vec::new(), Vec::new());
         for _ in 0..ROUNDS {
             native.push(self.round(times, ffi::month));
             plain.push(self.round(times, engine::month));
+            ratios.push(native[native.len() - 1] / plain[plain.len() - 1]);
         }
-        (median(native), median(plain))
+        [native, plain, ratios].map(median)
     }
 
     /// Nanoseconds of a call over one round. The copy of the fresh board is part of it on
