@@ -33,6 +33,17 @@ struct river_sums {
 
 struct river_sums river_stock(const uint8_t *file, size_t length, const uint64_t *board, size_t board_length);
 
+/* The numbers of a report: four for each right, two for each station, one for each reservoir. */
+#define RIVER_REPORT_LENGTH(rights, stations, reservoirs) (4 * (size_t)(rights) + 2 * (size_t)(stations) + (size_t)(reservoirs))
+
+/* Runs the next month of a board with one runoff number for each station, and writes the board that the month leaves and its report:
+   for each right what it is granted from the river and from storage, the reason 0 to 3 and the station of the shortage; for each
+   station flow and open water; for each reservoir evaporation. The report may be longer; what lies beyond is as it was.
+   Answers the number of rights short. A refusal is its number times 4294967296, plus its place; then board and report are as they were.
+   1 to 5: the file, as above; 6: the length of a list; 7: the board, as above; 8: a runoff above 1000000000, at the first such station. */
+uint64_t river_month(const uint8_t *file, size_t length, const uint32_t *runoff, size_t runoff_length, uint64_t *board,
+                     size_t board_length, uint64_t *report, size_t report_length);
+
 #ifdef __cplusplus
 }
 #endif

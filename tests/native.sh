@@ -1,6 +1,6 @@
 #!/usr/bin/env bash
 # The static libraries as their callers see them: the C examples, then the comparison with the plain Rust engine, then
-# the two checks timed in one run.
+# check and month of both timed in one run.
 set -euo pipefail
 cd "$(dirname "$0")/.."
 
@@ -11,15 +11,22 @@ build() {
 }
 build check
 build stock
+build month
 target/stock_c samples/october.basin.bin | diff - examples/stock.expected
+target/month_c samples/october.basin.bin | diff - examples/month.expected
 test "$(target/check_c)" = "no bytes refused 1 0"
 names=crates/rivercheck/args
 (cd crates/rivercheck/data && xargs ../../../target/check_c <../args) | diff - crates/rivercheck/stdout
 echo "C: no bytes, and $(wc -l <"$names") named files answered as listed"
 if command -v valgrind >/dev/null; then
     (cd crates/rivercheck/data && xargs valgrind -q --error-exitcode=1 ../../../target/check_c <../args) | diff - crates/rivercheck/stdout
-    echo "C under valgrind: no read outside a file"
+    valgrind -q --error-exitcode=1 target/month_c samples/october.basin.bin | diff - examples/month.expected
+    echo "C under valgrind: no read outside a file, no write outside a board or a report"
 fi
 
-cargo test --release --offline --quiet --manifest-path tests/Cargo.toml --features native --test native -- --nocapture
-cargo run --release --offline --quiet --manifest-path tests/Cargo.toml --features native --bin bench_check
+native() {
+    cargo "$1" --release --offline --quiet --manifest-path tests/Cargo.toml --features native "${@:2}"
+}
+native test --test native --test native_month -- --nocapture
+native run --bin bench_check
+native run --bin bench_month

@@ -14,6 +14,17 @@ mod c {
             board: *const u64,
             board_len: usize,
         ) -> super::Sums;
+        /// Number × 2^32 + place; an accepted month: the number of rights short.
+        pub fn river_month(
+            file: *const u8,
+            len: usize,
+            runoff: *const u32,
+            runoff_len: usize,
+            board: *mut u64,
+            board_len: usize,
+            report: *mut u64,
+            report_len: usize,
+        ) -> u64;
     }
 }
 
@@ -49,4 +60,22 @@ pub fn fresh(file: &[u8], board: &mut [u64]) -> (u32, u32) {
 pub fn stock(file: &[u8], board: &[u64]) -> [u64; 4] {
     let sums = unsafe { c::river_stock(file.as_ptr(), file.len(), board.as_ptr(), board.len()) };
     [sums.number as u64, sums.place as u64, sums.storage, sums.due]
+}
+
+/// Number and place of the checked engine's month, or 0 and the number of rights short; it is
+/// run on `board` and told in `report`.
+pub fn month(file: &[u8], runoff: &[u32], board: &mut [u64], report: &mut [u64]) -> (u32, u32) {
+    let both = unsafe {
+        c::river_month(
+            file.as_ptr(),
+            file.len(),
+            runoff.as_ptr(),
+            runoff.len(),
+            board.as_mut_ptr(),
+            board.len(),
+            report.as_mut_ptr(),
+            report.len(),
+        )
+    };
+    ((both >> 32) as u32, both as u32)
 }

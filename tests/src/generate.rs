@@ -159,6 +159,24 @@ pub fn largest() -> Basin {
     river(&mut Rng::new(20736), Size::Limit, Volume::Usual, Water::Even).basin
 }
 
+/// One stream without tributaries, with as many reservoirs, patterns and rights as there can be:
+/// the path of a row is all rows from it on, so paths grow with the rows.
+pub fn straight(rows: usize) -> Basin {
+    let rng = &mut Rng::new(rows as u64);
+    let stations = stations_of(rng, rows, 0);
+    with_bodies(rng, stations, [MOST_RESERVOIRS, MOST_PATTERNS, MOST_RIGHTS], 5000)
+}
+
+/// A runoff sheet for a basin, from dry to wet reaches. `tenths`: how much there can be in all,
+/// in tenths of what the rights ask in a month at the middle.
+pub fn sheet(rng: &mut Rng, basin: &Basin, tenths: u64) -> Vec<u32> {
+    let amounts = |right: &Right| right.amounts.iter().map(|&amount| amount as u64).sum::<u64>();
+    let asked = basin.rights.iter().map(amounts).sum::<u64>() / MONTHS as u64;
+    let reaches = basin.stations.len() as u64;
+    let most = (asked * tenths / 10 / reaches).clamp(5, 1_000_000_000);
+    (0..reaches).map(|_| rng.between(0, most) as u32).collect()
+}
+
 fn basin(rng: &mut Rng, size: Size, amount_limit: u32) -> Basin {
     let [rows, reservoirs, patterns, rights] = match size {
         Size::One => [1, rng.below(3), rng.below(2), rng.below(6)],
@@ -166,8 +184,21 @@ fn basin(rng: &mut Rng, size: Size, amount_limit: u32) -> Basin {
         Size::Middle => [rng.below(20) + 8, rng.below(9), rng.below(17), rng.below(50) + 10],
         Size::Limit => [MOST_STATIONS, MOST_RESERVOIRS, MOST_PATTERNS, MOST_RIGHTS],
     };
+    let steep = *rng.pick(&[0, 30, 60]);
+    let stations = stations_of(rng, rows, steep);
+    with_bodies(rng, stations, [reservoirs, patterns, rights], amount_limit)
+}
+
+/// Reservoirs, patterns and rights for a network.
+fn with_bodies(
+    rng: &mut Rng,
+    stations: Vec<Station>,
+    [reservoirs, patterns, rights]: [usize; 3],
+    amount_limit: u32,
+) -> Basin {
+    let rows = stations.len();
     let mut basin = Basin {
-        stations: stations(rng, rows),
+        stations,
         reservoirs: (0..reservoirs).map(|_| reservoir(rng, rows, amount_limit)).collect(),
         patterns: (0..patterns).map(|_| pattern(rng)).collect(),
         rights: Vec::new(),
@@ -176,11 +207,10 @@ fn basin(rng: &mut Rng, size: Size, amount_limit: u32) -> Basin {
     basin
 }
 
-/// A tree of tributaries. From the last row up, a row may have any order that
-/// finds a row below; a row added above never changes what those below find.
-fn stations(rng: &mut Rng, rows: usize) -> Vec<Station> {
+/// A tree of tributaries, one stream where `steep` is 0. From the last row up, a row may have
+/// any order that finds a row below; a row added above never changes what those below find.
+fn stations_of(rng: &mut Rng, rows: usize, steep: u64) -> Vec<Station> {
     let mut orders = vec![1u8];
-    let steep = *rng.pick(&[0, 30, 60]);
     while orders.len() < rows {
         let later = if rng.chance(60) { orders[orders.len() - 1] } else { *rng.pick(&orders) };
         let order = if rng.chance(steep) { (later + 1).min(8) } else { later };

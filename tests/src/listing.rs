@@ -1,81 +1,140 @@
-//! The text that program `riverrun` prints, from the bytes of `basin.bin` and
-//! `months.bin`. "A file that can't be opened counts as empty", so the caller
-//! hands no bytes for one.
+//! What program `riverrun` does: it reads `months.bin` as it comes and prints a
+//! listing. "A file that can't be opened counts as empty", so the caller hands
+//! no bytes for one.
 
-use crate::engine::board::BOARD;
-use crate::engine::records::{u32_at, CONTENTS_BYTES, RIGHT_BYTES};
-use crate::engine::{check, fresh, month, stock};
-use std::fmt::Write;
+use crate::engine::board::{fresh, BOARD, DUES, MARKS, STORAGES};
+use crate::engine::check::{judge, Judged, Network};
+use crate::engine::month::{month_on, NoWitness};
+use crate::engine::records::u32_at;
+use crate::engine::slip::Faithful;
+use std::io::{self, Read, Write};
 
-const HEADER: &str = "MONTH PERMIT RIVER STORE WHY AT\n";
+const HEADER: &[u8] = b"MONTH PERMIT RIVER STORE WHY AT\n";
 
+/// The whole listing, from the bytes of both files.
 pub fn listing(basin: &[u8], months: &[u8]) -> String {
+    let mut text = Vec::new();
+    run(basin, months, &mut text).expect("neither bytes nor a list of them can fail");
+    String::from_utf8(text).unwrap()
+}
+
+/// Prints the listing, a month at a time: however many months there are, only one
+/// is held. The file is judged once.
+pub fn run(basin: &[u8], mut months: impl Read, mut out: impl Write) -> io::Result<()> {
     // "The header always comes first."
-    let mut text = String::from(HEADER);
-    let answer = check(basin);
-    if answer.0 != 0 {
-        refuse(&mut text, answer);
-        return text;
-    }
-    let stations = u32_at(basin, 4) as usize;
-    let mut run = Run::begin(basin, stations);
-    for (number, part) in months.chunks(4 * stations).enumerate() {
+    out.write_all(HEADER)?;
+    let mut network = Network::room();
+    let judged = match judge(&Faithful, basin, &mut network) {
+        Ok(judged) => judged,
+        Err(refusal) => return refuse(out, refusal.answer()),
+    };
+    let mut run = Run::begin(basin, &judged);
+    let mut part = vec![0; 4 * judged.sections.stations.len()];
+    let mut text = Vec::new();
+    for number in 0.. {
+        let length = fill(&mut months, &mut part)?;
+        if length == 0 {
+            break;
+        }
         // "a last part too short is refusal 6"; the month call would say the
         // same, but part of a number cannot be handed to it.
-        let answer = if part.len() < 4 * stations { (6, 0) } else { run.month(part) };
+        let answer = if length < part.len() { (6, 0) } else { run.month(&part) };
         if answer.0 != 0 {
-            refuse(&mut text, answer);
-            return text;
+            return refuse(out, answer);
         }
+        text.clear();
         run.print(number, &mut text);
+        out.write_all(&text)?;
     }
-    text
+    Ok(())
 }
 
 /// "A refusal prints `refused`, number, place, and ends the run."
-fn refuse(text: &mut String, (number, place): (u32, u32)) {
-    writeln!(text, "refused {number} {place}").unwrap();
+fn refuse(mut out: impl Write, (number, place): (u32, u32)) -> io::Result<()> {
+    writeln!(out, "refused {number} {place}")
+}
+
+/// Reads until the part is full or nothing is left; tells how much was read.
+fn fill(months: &mut impl Read, part: &mut [u8]) -> io::Result<usize> {
+    let mut length = 0;
+    while length < part.len() {
+        match months.read(&mut part[length..]) {
+            Ok(0) => break,
+            Ok(more) => length += more,
+            Err(error) if error.kind() == io::ErrorKind::Interrupted => (),
+            Err(error) => return Err(error),
+        }
+    }
+    Ok(length)
 }
 
 struct Run<'a> {
-    basin: &'a [u8],
-    stations: usize,
-    permits: Vec<u32>,
-    reservoirs: usize,
+    basin: &'a Judged<'a>,
+    runoff: Vec<u32>,
     board: Vec<u64>,
     report: Vec<u64>,
 }
 
 impl<'a> Run<'a> {
-    /// The basin has been accepted, so its contents are packed.
-    fn begin(basin: &'a [u8], stations: usize) -> Run<'a> {
-        let reservoirs = u32_at(basin, 12) as usize;
-        let rights = u32_at(basin, 28) as usize;
-        let body = &basin[u32_at(basin, CONTENTS_BYTES - 8) as usize..];
-        let permits = body.chunks(RIGHT_BYTES).map(|right| u32_at(right, 0)).collect();
+    fn begin(file: &[u8], basin: &'a Judged) -> Run<'a> {
         let mut board = vec![0; BOARD];
-        fresh(basin, &mut board);
-        let report = vec![0; 4 * rights + 2 * stations + reservoirs];
-        Run { basin, stations, permits, reservoirs, board, report }
+        fresh(&Faithful, file, &mut board);
+        Run {
+            basin,
+            runoff: vec![0; basin.sections.stations.len()],
+            board,
+            report: vec![0; basin.sections.report_length()],
+        }
     }
 
     fn month(&mut self, part: &[u8]) -> (u32, u32) {
-        let runoff: Vec<u32> = part.chunks(4).map(|number| u32_at(number, 0)).collect();
-        month(self.basin, &runoff, &mut self.board, &mut self.report)
+        for (runoff, number) in self.runoff.iter_mut().zip(part.as_chunks::<4>().0) {
+            *runoff = u32::from_le_bytes(*number);
+        }
+        let Run { basin, runoff, board, report } = self;
+        month_on(&Faithful, &mut NoWitness, basin, runoff, board, report)
     }
 
-    fn print(&self, number: usize, text: &mut String) {
+    fn print(&self, number: u64, text: &mut Vec<u8>) {
+        let sections = &self.basin.sections;
+        let (rights, rows) = self.report.split_at(4 * sections.rights.len());
         // "A right's line is the month, its permit and its four numbers of the report."
-        for (permit, four) in self.permits.iter().zip(self.report.chunks(4)) {
-            let [river, store, why, at] = four else { unreachable!() };
-            writeln!(text, "{number} {permit} {river} {store} {why} {at}").unwrap();
+        for (right, four) in sections.rights.iter().zip(rights.as_chunks::<4>().0) {
+            push_number(text, number, b' ');
+            push_number(text, u32_at(right, 0) as u64, b' ');
+            push_line(text, *four);
         }
         // "The end line is month, `end`, outflow, evaporation, storage, pending,
         // the last three over the whole basin."
-        let rows = &self.report[4 * self.permits.len()..];
-        let outflow = rows[2 * (self.stations - 1)];
-        let evaporation: u64 = rows[2 * self.stations..][..self.reservoirs].iter().sum();
-        let [_, _, storage, pending] = stock(self.basin, &self.board);
-        writeln!(text, "{number} end {outflow} {evaporation} {storage} {pending}").unwrap();
+        let outflow = rows[2 * (sections.stations.len() - 1)];
+        let evaporation = rows[2 * sections.stations.len()..].iter().sum();
+        let storage = self.board[STORAGES..MARKS].iter().sum();
+        let pending = self.board[DUES..].iter().sum();
+        push_number(text, number, b' ');
+        text.extend_from_slice(b"end ");
+        push_line(text, [outflow, evaporation, storage, pending]);
     }
+}
+
+fn push_line(text: &mut Vec<u8>, [one, two, three, four]: [u64; 4]) {
+    push_number(text, one, b' ');
+    push_number(text, two, b' ');
+    push_number(text, three, b' ');
+    push_number(text, four, b'\n');
+}
+
+/// A number and what follows it. With the standard formatting a whole run took
+/// nearly twice the instructions.
+fn push_number(text: &mut Vec<u8>, mut number: u64, end: u8) {
+    let mut digits = [end; 21];
+    let mut first = 20;
+    loop {
+        first -= 1;
+        digits[first] = b'0' + (number % 10) as u8;
+        number /= 10;
+        if number == 0 {
+            break;
+        }
+    }
+    text.extend_from_slice(&digits[first..]);
 }

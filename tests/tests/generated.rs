@@ -3,7 +3,7 @@
 use river_tests::engine::records::*;
 use river_tests::engine::tally::{path, row_below};
 use river_tests::engine::{board, check, fresh, stock};
-use river_tests::generate::{any_river, largest, river_of, Rng, Size};
+use river_tests::generate::{any_river, largest, river_of, sheet, straight, Rng, Size};
 
 #[test]
 fn valid_basins_are_accepted() {
@@ -35,6 +35,33 @@ fn largest_file_is_at_every_limit() {
     for seed in 0..20 {
         let river = river_of(&mut Rng::new(seed), Size::Limit);
         assert_eq!(river.file.len(), 20_736);
+    }
+}
+
+#[test]
+fn straight_rivers_have_one_path() {
+    for rows in 1..=64 {
+        let basin = straight(rows);
+        assert_eq!(check(&basin.encode()), (0, 0), "{rows} rows");
+        assert_eq!(path(&basin.stations, 0), (0..rows).collect::<Vec<_>>());
+        assert_eq!((basin.reservoirs.len(), basin.rights.len()), (8, 256));
+    }
+}
+
+#[test]
+fn sheets_hold_as_much_water_as_they_should() {
+    let (basin, rng) = (largest(), &mut Rng::new(3));
+    let asked: u64 =
+        basin.rights.iter().map(|r| r.amounts.map(u64::from).iter().sum::<u64>()).sum();
+    for tenths in [3, 15, 100] {
+        let months = 120;
+        let numbers: Vec<u32> = (0..months).flat_map(|_| sheet(rng, &basin, tenths)).collect();
+        assert_eq!(numbers.len(), months * basin.stations.len());
+        assert!(numbers.iter().all(|&number| number <= 1_000_000_000));
+        // Half of the most at the middle.
+        let middle = asked as f64 / 12.0 * tenths as f64 / 10.0 / 2.0;
+        let water = numbers.iter().map(|&number| number as f64).sum::<f64>() / months as f64;
+        assert!((0.95..1.05).contains(&(water / middle)), "{tenths}: {water} for {middle}");
     }
 }
 

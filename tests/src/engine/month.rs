@@ -44,10 +44,23 @@ pub fn month<T: Telling, W: Witness>(
         Ok(basin) => basin,
         Err(refusal) => return refusal.answer(),
     };
-    if let Err(refusal) = judge_call(telling, &basin, runoff, board, report) {
+    month_on(telling, witness, &basin, runoff, board, report)
+}
+
+/// The month call on a file that has been judged, for a caller who runs many months
+/// of one file.
+pub fn month_on<T: Telling, W: Witness>(
+    telling: &T,
+    witness: &mut W,
+    basin: &Judged,
+    runoff: &[u32],
+    board: &mut [u64],
+    report: &mut [u64],
+) -> (u32, u32) {
+    if let Err(refusal) = judge_call(telling, basin, runoff, board, report) {
         return refusal.answer();
     }
-    let mut month = Month::begin(telling, &basin, board);
+    let mut month = Month::begin(telling, basin, board);
     month.clear_in_october();
     month.start_flow(runoff);
     month.move_dues();
