@@ -10,5 +10,6 @@ pub mod Reporting
 pub mod After
 pub mod Running
 pub mod Settling
+pub mod Going
 pub mod Rows
 pub mod Theorems

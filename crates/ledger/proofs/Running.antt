@@ -49,7 +49,7 @@ opened-def bd p o = refl
 -- ---- what each place of a possible board holds at most
 
 module _ (b : Basin) (acc : Accepted b) (bd : List ℕ) (can : possible b bd ≡ true) (size : length bd ≡ 970) where
-  capacity-most : (v : ℕ) → (reservoirAt b v) .capacity ≤ 2_000_000_000
+  pub capacity-most : (v : ℕ) → (reservoirAt b v) .capacity ≤ 2_000_000_000
   capacity-most v = pick (decLt v (length (b .reservoirs)))
     where
       pick : Dec (v < length (b .reservoirs)) → (reservoirAt b v) .capacity ≤ 2_000_000_000

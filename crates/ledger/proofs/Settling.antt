@@ -94,6 +94,18 @@ module _ (runoff : List ℕ) where
   unfolding overLimit
   none-over e j h = not-lt-of {m = 1_000_000_000} {n = getD runoff j 0} (first-none (over runoff) (length runoff) 0 e j (omega arith) (omega (arith, h)))
 
+  pub within-limit : overLimit runoff ≡ none → (j : ℕ) → getD runoff j 0 ≤ mostRunoff
+  within-limit e j = pick (decLt j (length runoff))
+    where
+      pick : Dec (j < length runoff) → getD runoff j 0 ≤ mostRunoff
+      pick (yes h) = none-over e j h
+      pick (no h) = omega (arith, List·getD-eq-default runoff 0 {n = j} (omega (arith, h)))
+
+pub clear-over : (o : Option ℕ) → (settled (overAnswer o)) .number ≡ 0 → o ≡ none
+unfolding settled overAnswer
+clear-over none e = refl
+clear-over (some i) e = absurd (omega arith)
+
 -- ---- refusals
 
 module _ (f runoff board report : List ℕ) where
@@ -128,11 +140,6 @@ module _ (f runoff board report : List ℕ) where
     pub lists-ok : listsFit (basinOf f) runoff board report ≡ true
     pub board-ok : possible (basinOf f) board ≡ true
     pub runoff-ok : overLimit runoff ≡ none
-
-  clear-over : (o : Option ℕ) → (settled (overAnswer o)) .number ≡ 0 → o ≡ none
-  unfolding settled overAnswer
-  clear-over none e = refl
-  clear-over (some i) e = absurd (omega arith)
 
   clear-all : (v : Verdict) (fits can : Bool) (o : Option ℕ) → (settled (orElse (verdictRefusal v) (orElse (unless fits 6) (orElse (unless can 7) (overAnswer o))))) .number ≡ 0
       → (v ≡ Accepted) × (fits ≡ true) × (can ≡ true) × (o ≡ none)
@@ -176,18 +183,11 @@ module _ (f runoff board report : List ℕ) where
         record {
           accepted = accepted-facts f (k .file-ok);
           sheet = p .0;
-          small = within;
+          small = within-limit runoff (k .runoff-ok);
           size = p .2;
           can = k .board-ok;
           room = p .1;
         }
-      where
-        within : (j : ℕ) → getD runoff j 0 ≤ mostRunoff
-        within j = pick (decLt j (length runoff))
-          where
-            pick : Dec (j < length runoff) → getD runoff j 0 ≤ mostRunoff
-            pick (yes h) = none-over runoff (k .runoff-ok) j h
-            pick (no h) = omega (arith, List·getD-eq-default runoff 0 {n = j} (omega (arith, h)))
 
     run-is : (bd rp : List ℕ) (c : ℕ) → Ran (basinOf f) runoff board report bd rp c → monthOf f runoff board report (nameIn rp) ≡ record { answer = record { number = 0; place = c }; board = bd; report = rp }
     unfolding monthOf monthSettled
@@ -197,7 +197,7 @@ module _ (f runoff board report : List ℕ) where
     month-made bd rp c r = record { equation = sym (run-is bd rp c r); names = subst (λ (o : Option Answer). NamesAllowed o (basinOf f) (runOf (basinOf f) runoff board) (nameIn rp)) (sym none-refused) (r .names) }
 
 -- the rights short are at most all
-shorts-most : (ts : List Turn) → shortCount ts ≤ length ts
+pub shorts-most : (ts : List Turn) → shortCount ts ≤ length ts
 unfolding shortCount sumOver
 shorts-most [] = omega arith
 shorts-most (t ∷ ts) = omega (arith, only-le (isShort t) 1, shorts-most ts)

@@ -8,12 +8,12 @@ use Rattle.general.specs.Tests.{has}
 use Rattle.rules.specs.Accepted.{Accepted}
 use Rattle.rules.specs.Basin.{Basin, rows}
 use Rattle.rules.specs.Month.{MonthRun, nextMonth, shortCount}
-use Rattle.rules.specs.Tally.{reportLength}
+use Rattle.rules.specs.Tally.{reportLength, overLimit, overAnswer}
 use Rattle.basin.specs.Records.{reservoirCount}
 use Rattle.turns.specs.Losses.{Lost}
 use Rattle.ledger.specs.Board.{possible}
 use Rattle.ledger.specs.Report.{grantAt, reportOf, nameIn}
-use Rattle.ledger.specs.Calls.{runOf, boardAfter}
+use Rattle.ledger.specs.Calls.{runOf, boardAfter, Outcome, monthSettled, NamesAllowed}
 use Rattle.ledger.specs.Bodies.{bodies}
 
 -- ---- flow and available flow of n rows, told in the report from `at` on
@@ -59,6 +59,19 @@ pub record CanRun (st rs ps ri runoff bd rp : List ℕ) : Type 0 where
   pub size : length bd ≡ 970
   pub can : possible (bodies st rs ps ri) bd ≡ true
   pub room : reportLength (bodies st rs ps ri) ≤ length rp
+
+-- the same but for the limit of the runoff
+pub record CanGoOn (st rs ps ri runoff bd rp : List ℕ) : Type 0 where
+  pub accepted : Accepted (bodies st rs ps ri)
+  pub sheet : length runoff ≡ rows (bodies st rs ps ri)
+  pub size : length bd ≡ 970
+  pub can : possible (bodies st rs ps ri) bd ≡ true
+  pub room : reportLength (bodies st rs ps ri) ≤ length rp
+
+-- Of an accepted file, on a possible board, only the runoff can be turned down. All else is as month promises.
+pub record WentOn (b : Basin) (runoff bd rp : List ℕ) (outcome : Outcome) : Type 0 where
+  pub equation : outcome ≡ monthSettled (overAnswer (overLimit runoff)) b runoff bd rp (nameIn (outcome .report))
+  pub names : NamesAllowed (overAnswer (overLimit runoff)) b (runOf b runoff bd) (nameIn (outcome .report))
 
 pub record Ran (b : Basin) (runoff bd rp bd′ rp′ : List ℕ) (c : ℕ) : Type 0 where
   pub board : bd′ ≡ boardAfter b runoff bd

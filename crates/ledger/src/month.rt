@@ -8,9 +8,10 @@ ghost use lib.ListN.{length, getD};
 ghost use Rattle.ledger.specs.Answers.{outcomeOf};
 ghost use Rattle.ledger.specs.Bodies.{bodies};
 ghost use Rattle.ledger.specs.Calls.{MonthMeets};
-ghost use Rattle.ledger.specs.Steps.{CanTell, RowsTold, CanEnd, Ended, CanRun, Ran};
+ghost use Rattle.ledger.specs.Steps.{CanTell, RowsTold, CanEnd, Ended, CanRun, Ran, CanGoOn, WentOn};
 use crate::answer::Answer;
 use crate::settle::on_month;
+use crate::settle::on_runoff;
 use basin::contents::PATTERNS;
 use basin::contents::RESERVOIRS;
 use basin::contents::RIGHTS;
@@ -132,6 +133,38 @@ pub fn run(
         report,
     );
     shorts
+}
+
+// The next month of an accepted file on a possible board, which a caller that keeps both need not have tested again.
+pub fn go_on(
+    stations: &[u8],
+    reservoirs: &[u8],
+    patterns: &[u8],
+    rights: &[u8],
+    runoff: &[u32],
+    board: &mut [u64],
+    report: &mut [u64],
+) -> Answer
+    requires { ⌜ CanGoOn (now stations) (now reservoirs) (now patterns) (now rights) (now runoff) (now board) (now report) ⌝ }
+    ensures { λ r. ⌜ WentOn (bodies (now (stations .entry)) (now (reservoirs .entry)) (now (patterns .entry)) (now (rights .entry))) (now (runoff .entry)) (now (board .entry)) (now (report .entry)) (outcomeOf r (now (board .exit)) (now (report .exit))) ⌝ }
+{
+    let answer = on_runoff(runoff);
+    if answer.number != 0 {
+        return answer;
+    }
+    let shorts = run(
+        stations,
+        reservoirs,
+        patterns,
+        rights,
+        runoff,
+        board,
+        report,
+    );
+    Answer {
+        number: 0,
+        place: shorts as u32,
+    }
 }
 
 // All that is turned down is turned down before the first store.

@@ -42,7 +42,7 @@ fn lists_fit(
 }
 
 // The first row whose runoff is over the limit.
-fn on_runoff(runoff: &[u32]) -> Answer
+pub fn on_runoff(runoff: &[u32]) -> Answer
     requires { ⌜ length (now runoff) ≤ 64 ⌝ }
     ensures { λ r. ⌜ answerOf r ≡ settled (overAnswer (overLimit (now (runoff .entry)))) ⌝ }
 {

@@ -19,7 +19,7 @@ use basin::contents::STATIONS;
 use basin::contents::section;
 
 // A possible board stores at most eight full reservoirs, so the sum fits.
-fn storage_sum(n: usize, board: &[u64]) -> u64
+pub fn storage_sum(n: usize, board: &[u64]) -> u64
     requires { ⌜ (n ≤ 8) × Bounded (now board) ⌝ }
     ensures { λ r. ⌜ r ≡ sumTo n (storageAt (now (board .entry))) ⌝ }
 {
@@ -42,7 +42,7 @@ fn row_due(board: &[u64], w: usize) -> u64
     sum
 }
 
-fn due_sum(n: usize, board: &[u64]) -> u64
+pub fn due_sum(n: usize, board: &[u64]) -> u64
     requires { ⌜ (n ≤ 64) × Bounded (now board) ⌝ }
     ensures { λ r. ⌜ r ≡ sumTo n (λ w. sumTo 11 (λ k. dueAt (now (board .entry)) w (suc k))) ⌝ }
 {
