@@ -1,4 +1,4 @@
--- The arrays of a month as the rules' levels, and what each walk along a path asks for.
+-- The arrays of a month as the rules' levels, what each walk along a path asks for, and what it leaves.
 use mathlib.Core.Bool.{Bool, true, false, cond}
 use mathlib.Core.List.{List, [], _∷_}
 use mathlib.Core.Path.{_≡_}
