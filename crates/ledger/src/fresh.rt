@@ -27,7 +27,7 @@ fn start_at(reservoirs: &[u8], p: usize) -> u64
 }
 
 // Writes every place, so that nothing of what the board held is left.
-fn write_fresh(reservoirs: &[u8], board: &mut [u64])
+pub fn write_fresh(reservoirs: &[u8], board: &mut [u64])
     requires { ⌜ length (now board) ≡ 970 ⌝ }
     ensures { λ _. ⌜ now (board .exit) ≡ startBoard (now (reservoirs .entry)) ⌝ }
 {
