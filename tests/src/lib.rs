@@ -16,3 +16,4 @@ pub mod ffi;
 pub mod generate;
 pub mod listing;
 pub mod run;
+pub mod runs;

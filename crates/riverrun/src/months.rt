@@ -92,7 +92,15 @@ fn next(
         return false;
     }
     decode(sheet, runoff);
-    let answer = go_on(stations, reservoirs, patterns, rights, runoff, board, report);
+    let answer = go_on(
+        stations,
+        reservoirs,
+        patterns,
+        rights,
+        runoff,
+        board,
+        report,
+    );
     if answer.number != 0 {
         print_refusal(answer);
         return false;

@@ -1,0 +1,78 @@
+//! The runs that program `riverrun` is put to under the gate: two files each, of
+//! which either may be missing, and the listing that the rules give them.
+
+use crate::engine::records::Basin;
+use crate::examples::{months_bytes, october};
+use crate::generate::{river, Rng, Size, Volume, Water};
+use crate::listing::listing;
+
+pub struct Run {
+    pub name: &'static str,
+    pub basin: Option<Vec<u8>>,
+    pub months: Option<Vec<u8>>,
+}
+
+impl Run {
+    /// The names of its two files.
+    pub fn files(&self) -> [String; 2] {
+        [format!("{}.basin.bin", self.name), format!("{}.months.bin", self.name)]
+    }
+
+    /// "A file that can't be opened counts as empty."
+    pub fn listing(&self) -> String {
+        listing(self.basin.as_deref().unwrap_or(&[]), self.months.as_deref().unwrap_or(&[]))
+    }
+}
+
+/// The sample rivers are read by the caller.
+pub fn runs(provo: [Vec<u8>; 2]) -> Vec<Run> {
+    let sheet = months_bytes(&[2000, 700, 300]);
+    let [provo_basin, provo_months] = provo;
+    let file = || october().encode();
+    let mut all = vec![
+        run("october", Some(file()), Some(sheet.clone())),
+        run("provo", Some(provo_basin), Some(provo_months)),
+        run("no_month", Some(file()), Some(Vec::new())),
+        run("no_months_file", Some(file()), None),
+        run("no_basin_file", None, Some(sheet.clone())),
+        run("empty_basin", Some(Vec::new()), Some(sheet.clone())),
+        run("basin_with_a_byte_more", Some([file(), vec![0]].concat()), Some(sheet.clone())),
+        run("basin_longer_than_any", Some(vec![1; 70_000]), Some(sheet.clone())),
+        run("last_part_a_byte_short", Some(file()), Some([&sheet[..], &sheet[..11]].concat())),
+        run("last_part_one_byte", Some(file()), Some([&sheet[..], &sheet[..1]].concat())),
+        run("runoff_at_its_limit", Some(file()), Some(months_bytes(&[1_000_000_000; 3]))),
+        run(
+            "runoff_over_its_limit",
+            Some(file()),
+            Some([sheet.clone(), months_bytes(&[5, 1_000_000_001, u32::MAX])].concat()),
+        ),
+        run("right_at_fault", Some(unpointed_below_100().encode()), Some(sheet)),
+    ];
+    for (name, seed, water) in [
+        ("years_of_tight_water", 11, Water::Tight),
+        ("more_years_of_tight_water", 12, Water::Tight),
+        ("years_of_loose_water", 13, Water::Loose),
+    ] {
+        all.push(years(name, seed, water));
+    }
+    all
+}
+
+fn run(name: &'static str, basin: Option<Vec<u8>>, months: Option<Vec<u8>>) -> Run {
+    Run { name, basin, months }
+}
+
+/// A right without return points that would return part of its grant.
+fn unpointed_below_100() -> Basin {
+    let mut basin = october();
+    basin.rights[3].efficiency = 99;
+    basin
+}
+
+/// Four years of a river drawn at random.
+fn years(name: &'static str, seed: u64, water: Water) -> Run {
+    let mut rng = Rng::new(seed);
+    let river = river(&mut rng, Size::Middle, Volume::Usual, water);
+    let months = (0..48).flat_map(|_| months_bytes(&river.runoff(&mut rng))).collect();
+    run(name, Some(river.basin.encode()), Some(months))
+}
