@@ -9,7 +9,6 @@ use native.Mathlib.Omega.{arith}
 use lib.Dec.{leb, ltb, eqb}
 use lib.ListN.{length, getD, List·getD-eq-default}
 use Rattle.general.specs.Sums.{only, sumOver}
-use Rattle.general.specs.Tables.{tab}
 use Rattle.general.specs.Tests.{_and_, firstAt}
 use Rattle.general.proofs.Loops.{search-here, search-on, search-over}
 use Rattle.general.proofs.Tests.{ltb-yes, ltb-no, not-lt-of, eq-of, le-of, both-of, only-le}
@@ -18,7 +17,6 @@ use Rattle.rules.specs.Basin.{Basin, rows}
 use Rattle.rules.specs.Turn.{Turn}
 use Rattle.rules.specs.Month.{isShort, shortCount}
 use Rattle.rules.specs.Tally.{Answer, reportLength, overLimit, overAnswer}
-use Rattle.rules.proofs.Months.{month-length}
 use Rattle.basin.specs.declared.Verdict.{Verdict}
 use Rattle.basin.specs.declared.Verdict.the-variants.{Accepted, Layout, Station, Reservoir, Pattern, Right}
 use Rattle.basin.specs.File.{sectionOf}
@@ -26,12 +24,12 @@ use Rattle.basin.specs.Records.{rowsOf, reservoirCount, rightCount, basinOf}
 use Rattle.basin.specs.Check.{checkOf}
 use Rattle.basin.proofs.Accepted.{accepted-facts}
 use Rattle.basin.proofs.Rows.{rows-are}
-use Rattle.ledger.specs.Board.{dueAt, carriedOf, possible}
+use Rattle.ledger.specs.Board.{possible}
 use Rattle.ledger.specs.Report.{nameIn}
 use Rattle.ledger.specs.Calls.{accepted, verdictRefusal, fileRefusal, orElse, unless, boardFits, listsFit, monthRefusal, runOf, Outcome, monthSettled, monthOf, NamesAllowed, MonthMeets}
 use Rattle.ledger.specs.Bodies.{bodies, Counted}
 use Rattle.ledger.specs.Answers.{settled}
-use Rattle.ledger.specs.Steps.{mostRunoff, CanRun, Ran}
+use Rattle.ledger.specs.Steps.{mostRunoff, lentRefusal, CanGoOn, WentOn}
 use Rattle.ledger.proofs.Bodies.{basin-bodies, reservoirs-are, rights-are}
 use Rattle.ledger.proofs.Answers.{refusing, settled-some, no-refusal}
 
@@ -108,30 +106,45 @@ clear-over (some i) e = absurd (omega arith)
 
 -- ---- refusals
 
-module _ (f runoff board report : List ℕ) where
-  abbrev refusal : Option Answer
-  refusal = monthRefusal f runoff board report
+abbrev told : Option Answer → ℕ
+told none = 0
+told (some a) = 1
 
-  pub month-file : (a : Answer) → a ≡ settled (fileRefusal f) → (a .number ≡ 0 → ⊥) → a ≡ settled refusal
-  unfolding monthRefusal orElse settled
-  month-file a e n = rw (settled-some (fileRefusal f) a e n)
+option-clash : {a : Answer} → none ≡ some a → ⊥
+option-clash e = omega (arith, ap told e)
+
+-- what is refused first stays refused, whatever comes after
+first-stays : (x y z later : Option Answer) (a : Answer) → orElse x (orElse y z) ≡ some a → orElse x (orElse y (orElse z later)) ≡ some a
+unfolding orElse
+first-stays (some x) y z later a e = e
+first-stays none (some y) z later a e = e
+first-stays none none (some z) later a e = e
+first-stays none none none later a e = absurd (option-clash e)
+
+module _ (f runoff board report : List ℕ) where
+  abbrev lent : Option Answer
+  lent = lentRefusal f runoff board report
+
+  pub lent-file : (a : Answer) → a ≡ settled (fileRefusal f) → (a .number ≡ 0 → ⊥) → a ≡ settled lent
+  unfolding lentRefusal orElse settled
+  lent-file a e n = rw (settled-some (fileRefusal f) a e n)
 
   module _ (acc : checkOf f ≡ Accepted) where
     none-of-file : fileRefusal f ≡ none
     none-of-file = no-refusal f board acc
 
-    pub month-unfit : listsFit (basinOf f) runoff board report ≡ false → refusing 6 ≡ settled refusal
-    unfolding monthRefusal orElse unless settled
-    month-unfit n = rw (none-of-file, n)
+    pub lent-unfit : listsFit (basinOf f) runoff board report ≡ false → refusing 6 ≡ settled lent
+    unfolding lentRefusal orElse unless settled
+    lent-unfit n = rw (none-of-file, n)
 
     module _ (fits : listsFit (basinOf f) runoff board report ≡ true) where
-      pub month-impossible : possible (basinOf f) board ≡ false → refusing 7 ≡ settled refusal
-      unfolding monthRefusal orElse unless settled
-      month-impossible n = rw (none-of-file, fits, n)
+      pub lent-impossible : possible (basinOf f) board ≡ false → refusing 7 ≡ settled lent
+      unfolding lentRefusal orElse unless settled
+      lent-impossible n = rw (none-of-file, fits, n)
 
-      pub month-runoff : possible (basinOf f) board ≡ true → (a : Answer) → a ≡ settled (overAnswer (overLimit runoff)) → a ≡ settled refusal
-      unfolding monthRefusal orElse unless
-      month-runoff n a e = rw (none-of-file, fits, n) e
+      pub lent-good : possible (basinOf f) board ≡ true → accepted ≡ settled lent
+      unfolding lentRefusal orElse unless settled
+      lent-good n = rw (none-of-file, fits, n)
 
   -- ---- number 0 clears every test
 
@@ -139,86 +152,66 @@ module _ (f runoff board report : List ℕ) where
     pub file-ok : checkOf f ≡ Accepted
     pub lists-ok : listsFit (basinOf f) runoff board report ≡ true
     pub board-ok : possible (basinOf f) board ≡ true
-    pub runoff-ok : overLimit runoff ≡ none
 
-  clear-all : (v : Verdict) (fits can : Bool) (o : Option ℕ) → (settled (orElse (verdictRefusal v) (orElse (unless fits 6) (orElse (unless can 7) (overAnswer o))))) .number ≡ 0
-      → (v ≡ Accepted) × (fits ≡ true) × (can ≡ true) × (o ≡ none)
+  clear-all : (v : Verdict) (fits can : Bool) → (settled (orElse (verdictRefusal v) (orElse (unless fits 6) (unless can 7)))) .number ≡ 0 → (v ≡ Accepted) × (fits ≡ true) × (can ≡ true)
   unfolding settled verdictRefusal orElse unless
-  clear-all Accepted true true o e = (refl, refl, refl, clear-over o e)
-  clear-all Accepted true false o e = absurd (omega arith)
-  clear-all Accepted false can o e = absurd (omega arith)
-  clear-all Layout fits can o e = absurd (omega arith)
-  clear-all (Station i) fits can o e = absurd (omega arith)
-  clear-all (Reservoir i) fits can o e = absurd (omega arith)
-  clear-all (Pattern i) fits can o e = absurd (omega arith)
-  clear-all (Right i) fits can o e = absurd (omega arith)
+  clear-all Accepted true true e = (refl, refl, refl)
+  clear-all Accepted true false e = absurd (omega arith)
+  clear-all Accepted false can e = absurd (omega arith)
+  clear-all Layout fits can e = absurd (omega arith)
+  clear-all (Station i) fits can e = absurd (omega arith)
+  clear-all (Reservoir i) fits can e = absurd (omega arith)
+  clear-all (Pattern i) fits can e = absurd (omega arith)
+  clear-all (Right i) fits can e = absurd (omega arith)
 
-  pub month-clear : (a : Answer) → a ≡ settled refusal → a .number ≡ 0 → Clear
-  unfolding monthRefusal fileRefusal
-  month-clear a e n =
-      let k = clear-all (checkOf f) (listsFit (basinOf f) runoff board report) (possible (basinOf f) board) (overLimit runoff) (ap (λ (x : Answer). x .number) (sym e) ∙ n) in
-      record { file-ok = k .0; lists-ok = k .1; board-ok = k .2; runoff-ok = k .3 }
+  pub lent-clear : (a : Answer) → a ≡ settled lent → a .number ≡ 0 → Clear
+  unfolding lentRefusal fileRefusal
+  lent-clear a e n =
+      let k = clear-all (checkOf f) (listsFit (basinOf f) runoff board report) (possible (basinOf f) board) (ap (λ (x : Answer). x .number) (sym e) ∙ n) in
+      record { file-ok = k .0; lists-ok = k .1; board-ok = k .2 }
 
   -- ---- the contract
 
-  refused-is : (a : Answer) → refusal ≡ some a → monthOf f runoff board report (nameIn report) ≡ record { answer = a; board = board; report = report }
+  refused-first : (a : Answer) → lent ≡ some a → monthRefusal f runoff board report ≡ some a
+  unfolding lentRefusal monthRefusal
+  refused-first a e = first-stays (fileRefusal f) (unless (listsFit (basinOf f) runoff board report) 6) (unless (possible (basinOf f) board) 7) (overAnswer (overLimit runoff)) a e
+
+  refused-is : (a : Answer) → monthRefusal f runoff board report ≡ some a → monthOf f runoff board report (nameIn report) ≡ record { answer = a; board = board; report = report }
   unfolding monthOf monthSettled
   refused-is a s = rw s
 
-  pub month-refused : (a : Answer) → a ≡ settled refusal → (a .number ≡ 0 → ⊥) → MonthMeets f runoff board report (record { answer = a; board = board; report = report })
+  pub month-refused : (a : Answer) → a ≡ settled lent → (a .number ≡ 0 → ⊥) → MonthMeets f runoff board report (record { answer = a; board = board; report = report })
   month-refused a e n =
-      let s : refusal ≡ some a = settled-some refusal a e n in
+      let s : monthRefusal f runoff board report ≡ some a = refused-first a (settled-some lent a e n) in
       record { equation = sym (refused-is a s); names = subst (λ (o : Option Answer). NamesAllowed o (basinOf f) (runOf (basinOf f) runoff board) (nameIn report)) (sym s) tt }
 
-  -- a month that nothing turns down
+  -- only the runoff is left to look at
   module _ (k : Clear) where
-    none-refused : refusal ≡ none
-    unfolding monthRefusal orElse unless overAnswer
-    none-refused = rw (none-of-file (k .file-ok), k .lists-ok, k .board-ok, k .runoff-ok)
+    rest : monthRefusal f runoff board report ≡ overAnswer (overLimit runoff)
+    unfolding monthRefusal orElse unless
+    rest = rw (none-of-file (k .file-ok), k .lists-ok, k .board-ok)
 
-    pub can-run : CanRun (sectionOf f 0) (sectionOf f 1) (sectionOf f 2) (sectionOf f 3) runoff board report
+    can-go : CanGoOn (sectionOf f 0) (sectionOf f 1) (sectionOf f 2) (sectionOf f 3) runoff board report
     unfolding basinOf bodies
-    can-run =
-        let p = fits-parts (basinOf f) runoff board report (k .lists-ok) in
-        record {
-          accepted = accepted-facts f (k .file-ok);
-          sheet = p .0;
-          small = within-limit runoff (k .runoff-ok);
-          size = p .2;
-          can = k .board-ok;
-          room = p .1;
-        }
+    can-go = let p = fits-parts (basinOf f) runoff board report (k .lists-ok) in record { accepted = accepted-facts f (k .file-ok); sheet = p .0; size = p .2; can = k .board-ok; room = p .1 }
 
-    run-is : (bd rp : List ℕ) (c : ℕ) → Ran (basinOf f) runoff board report bd rp c → monthOf f runoff board report (nameIn rp) ≡ record { answer = record { number = 0; place = c }; board = bd; report = rp }
-    unfolding monthOf monthSettled
-    run-is bd rp c r = rw none-refused (λ z. record { answer = record { number = 0; place = sym (r .shorts) z }; board = sym (r .board) z; report = sym (r .report) z })
+    went : (o : Outcome) → WentOn (basinOf f) runoff board report o → MonthMeets f runoff board report o
+    unfolding monthOf
+    went o w = record {
+      equation = w .equation ∙ ap (λ (v : Option Answer). monthSettled v (basinOf f) runoff board report (nameIn (o .report))) (sym rest);
+      names = subst (λ (v : Option Answer). NamesAllowed v (basinOf f) (runOf (basinOf f) runoff board) (nameIn (o .report))) (sym rest) (w .names);
+    }
 
-    pub month-made : (bd rp : List ℕ) (c : ℕ) → Ran (basinOf f) runoff board report bd rp c → MonthMeets f runoff board report (record { answer = record { number = 0; place = c }; board = bd; report = rp })
-    month-made bd rp c r = record { equation = sym (run-is bd rp c r); names = subst (λ (o : Option Answer). NamesAllowed o (basinOf f) (runOf (basinOf f) runoff board) (nameIn rp)) (sym none-refused) (r .names) }
+    -- at the parts of the file as the code has them
+    module _ {st rs ps ri : List ℕ} (e₀ : st ≡ sectionOf f 0) (e₁ : rs ≡ sectionOf f 1) (e₂ : ps ≡ sectionOf f 2) (e₃ : ri ≡ sectionOf f 3) where
+      pub can-go-at : CanGoOn st rs ps ri runoff board report
+      can-go-at = rw (e₀, e₁, e₂, e₃) can-go
+
+      pub month-went : (o : Outcome) → WentOn (bodies st rs ps ri) runoff board report o → MonthMeets f runoff board report o
+      month-went o w = went o (subst (λ (x : Basin). WentOn x runoff board report o) ((λ z. bodies (e₀ z) (e₁ z) (e₂ z) (e₃ z)) ∙ sym (basin-bodies f)) w)
 
 -- the rights short are at most all
 pub shorts-most : (ts : List Turn) → shortCount ts ≤ length ts
 unfolding shortCount sumOver
 shorts-most [] = omega arith
 shorts-most (t ∷ ts) = omega (arith, only-le (isShort t) 1, shorts-most ts)
-
--- ---- at the parts of the file as the code has them
-
-module _ (f runoff board report : List ℕ) (k : Clear f runoff board report) where
-  module _ {st rs ps ri : List ℕ} (e₀ : st ≡ sectionOf f 0) (e₁ : rs ≡ sectionOf f 1) (e₂ : ps ≡ sectionOf f 2) (e₃ : ri ≡ sectionOf f 3) where
-    pub can-run-at : CanRun st rs ps ri runoff board report
-    can-run-at = rw (e₀, e₁, e₂, e₃) (can-run f runoff board report k)
-
-    pub ran-at : (bd rp : List ℕ) (c : ℕ) → Ran (bodies st rs ps ri) runoff board report bd rp c → Ran (basinOf f) runoff board report bd rp c
-    ran-at bd rp c r = subst (λ (x : Basin). Ran x runoff board report bd rp c) ((λ z. bodies (e₀ z) (e₁ z) (e₂ z) (e₃ z)) ∙ sym (basin-bodies f)) r
-
-  pub shorts-few : (bd rp : List ℕ) (c : ℕ) → Ran (basinOf f) runoff board report bd rp c → c ≤ 256
-  unfolding runOf
-  shorts-few bd rp c r =
-      omega (
-        arith,
-        r .shorts,
-        shorts-most ((runOf (basinOf f) runoff board) .turns),
-        month-length (basinOf f) (carriedOf (basinOf f) board) runoff (tab (rows (basinOf f)) (λ w. dueAt board w 1)),
-        accepted-facts f (k .file-ok) .few-rights,
-      )

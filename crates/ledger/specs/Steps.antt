@@ -1,6 +1,7 @@
 -- The steps of a month on the arrays: what each asks for, and what it leaves (01, steps 1 to 5).
 use mathlib.Core.Bool.{Bool, true}
 use mathlib.Core.List.{List}
+use mathlib.Core.Option.{Option}
 use mathlib.Core.Path.{_≡_}
 use Prim.Native.Nat.{ℕ, _+_, _*_, _≤_, _<_}
 use lib.ListN.{length, getD, set}
@@ -8,12 +9,12 @@ use Rattle.general.specs.Tests.{has}
 use Rattle.rules.specs.Accepted.{Accepted}
 use Rattle.rules.specs.Basin.{Basin, rows}
 use Rattle.rules.specs.Month.{MonthRun, nextMonth, shortCount}
-use Rattle.rules.specs.Tally.{reportLength, overLimit, overAnswer}
-use Rattle.basin.specs.Records.{reservoirCount}
+use Rattle.rules.specs.Tally.{Answer, reportLength, overLimit, overAnswer}
+use Rattle.basin.specs.Records.{reservoirCount, basinOf}
 use Rattle.turns.specs.Losses.{Lost}
 use Rattle.ledger.specs.Board.{possible}
 use Rattle.ledger.specs.Report.{grantAt, reportOf, nameIn}
-use Rattle.ledger.specs.Calls.{runOf, boardAfter, Outcome, monthSettled, NamesAllowed}
+use Rattle.ledger.specs.Calls.{fileRefusal, orElse, unless, listsFit, runOf, boardAfter, Outcome, monthSettled, NamesAllowed}
 use Rattle.ledger.specs.Bodies.{bodies}
 
 -- ---- flow and available flow of n rows, told in the report from `at` on
@@ -45,6 +46,11 @@ pub record Ended (rs : List ℕ) (n at : ℕ) (f a bd rp bd′ rp′ : List ℕ)
   pub lowered : List ℕ
   pub lost : Lost rs (getD bd 0 0) (reservoirCount rs) bd told (at + 2 * n) lowered rp′
   pub gone-on : bd′ ≡ set lowered 0 (nextMonth (getD bd 0 0))
+
+-- ---- what month turns down before it looks at the runoff: refusals 1 to 7
+
+unfoldable pub lentRefusal : List ℕ → List ℕ → List ℕ → List ℕ → Option Answer
+lentRefusal f runoff board report = orElse (fileRefusal f) (orElse (unless (listsFit (basinOf f) runoff board report) 6) (unless (possible (basinOf f) board) 7))
 
 -- ---- the whole month, of the bodies of an accepted file, on a possible board
 

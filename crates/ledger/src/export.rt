@@ -1,19 +1,25 @@
 // Fresh, month and stock as C calls them, each list as a pointer and a length.
 ghost use mathlib.Core.Path.{_≡_};
 ghost use Rattle.ledger.specs.Calls.{freshOf, stockOf};
-ghost use Rattle.ledger.specs.Answers.{answerWord, stockTold, WordMeets};
+ghost use Rattle.ledger.specs.Answers.{answerOf, answerWord, stockTold, WordMeets};
+use crate::answer::Answer;
 use crate::answer::Stock;
 use crate::fresh::fresh;
 use crate::month::month;
 use crate::stock::stock;
 
 // The number and the first at fault in one word, the number in the upper half.
+fn word(answer: Answer) -> u64
+    ensures { λ r. ⌜ r ≡ answerWord (answerOf answer) ⌝ }
+{
+    (answer.number as u64) * 4294967296 + (answer.place as u64)
+}
+
 #[no_mangle]
 pub extern "C" fn river_fresh(file: &[u8], board: &mut [u64]) -> u64
     ensures { λ r. ⌜ (r ≡ answerWord ((freshOf (now (file .entry)) (now (board .entry))) .answer)) × (now (board .exit) ≡ (freshOf (now (file .entry)) (now (board .entry))) .board) ⌝ }
 {
-    let answer = fresh(file, board);
-    (answer.number as u64) * 4294967296 + (answer.place as u64)
+    word(fresh(file, board))
 }
 
 #[no_mangle]
@@ -25,8 +31,7 @@ pub extern "C" fn river_month(
 ) -> u64
     ensures { λ r. ⌜ WordMeets (now (file .entry)) (now (runoff .entry)) (now (board .entry)) (now (report .entry)) r (now (board .exit)) (now (report .exit)) ⌝ }
 {
-    let answer = month(file, runoff, board, report);
-    (answer.number as u64) * 4294967296 + (answer.place as u64)
+    word(month(file, runoff, board, report))
 }
 
 #[no_mangle]

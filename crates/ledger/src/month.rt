@@ -10,7 +10,7 @@ ghost use Rattle.ledger.specs.Bodies.{bodies};
 ghost use Rattle.ledger.specs.Calls.{MonthMeets};
 ghost use Rattle.ledger.specs.Steps.{CanTell, RowsTold, CanEnd, Ended, CanRun, Ran, CanGoOn, WentOn};
 use crate::answer::Answer;
-use crate::settle::on_month;
+use crate::settle::on_lent;
 use crate::settle::on_runoff;
 use basin::contents::PATTERNS;
 use basin::contents::RESERVOIRS;
@@ -171,25 +171,13 @@ pub fn go_on(
 pub fn month(file: &[u8], runoff: &[u32], board: &mut [u64], report: &mut [u64]) -> Answer
     ensures { λ r. ⌜ MonthMeets (now (file .entry)) (now (runoff .entry)) (now (board .entry)) (now (report .entry)) (outcomeOf r (now (board .exit)) (now (report .exit))) ⌝ }
 {
-    let answer = on_month(file, runoff, board, report);
-    if answer.number != 0 {
-        return answer;
+    let on_lent = on_lent(file, runoff, board, report);
+    if on_lent.number != 0 {
+        return on_lent;
     }
     let stations = section(file, STATIONS);
     let reservoirs = section(file, RESERVOIRS);
     let patterns = section(file, PATTERNS);
     let rights = section(file, RIGHTS);
-    let shorts = run(
-        stations,
-        reservoirs,
-        patterns,
-        rights,
-        runoff,
-        board,
-        report,
-    );
-    Answer {
-        number: 0,
-        place: shorts as u32,
-    }
+    go_on(stations, reservoirs, patterns, rights, runoff, board, report)
 }

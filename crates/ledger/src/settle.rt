@@ -1,12 +1,13 @@
-// What month turns down, in the order of document 01. All of it is settled before the first store.
+// What month turns down, in the order of document 01: first the file, the lists and the board, then the runoff.
 ghost use mathlib.Core.Path.{_≡_};
 ghost use mathlib.Core.List.{List};
 ghost use Prim.Native.Nat.{ℕ, _≤_};
 ghost use lib.ListN.{length};
 ghost use Rattle.rules.specs.Tally.{overLimit, overAnswer};
-ghost use Rattle.ledger.specs.Calls.{listsFit, monthRefusal};
+ghost use Rattle.ledger.specs.Calls.{listsFit};
 ghost use Rattle.ledger.specs.Bodies.{bodies, Counted};
 ghost use Rattle.ledger.specs.Answers.{answerOf, settled};
+ghost use Rattle.ledger.specs.Steps.{lentRefusal};
 use crate::answer::Answer;
 use crate::answer::BOARD;
 use crate::answer::LISTS;
@@ -61,8 +62,9 @@ pub fn on_runoff(runoff: &[u32]) -> Answer
     }
 }
 
-pub fn on_month(file: &[u8], runoff: &[u32], board: &[u64], report: &[u64]) -> Answer
-    ensures { λ r. ⌜ answerOf r ≡ settled (monthRefusal (now (file .entry)) (now (runoff .entry)) (now (board .entry)) (now (report .entry))) ⌝ }
+// All that is asked of what is lent, but for the limit of the runoff.
+pub fn on_lent(file: &[u8], runoff: &[u32], board: &[u64], report: &[u64]) -> Answer
+    ensures { λ r. ⌜ answerOf r ≡ settled (lentRefusal (now (file .entry)) (now (runoff .entry)) (now (board .entry)) (now (report .entry))) ⌝ }
 {
     let on_file = on_file(file);
     if on_file.number != 0 {
@@ -83,5 +85,8 @@ pub fn on_month(file: &[u8], runoff: &[u32], board: &[u64], report: &[u64]) -> A
             place: 0,
         };
     }
-    on_runoff(runoff)
+    Answer {
+        number: 0,
+        place: 0,
+    }
 }
