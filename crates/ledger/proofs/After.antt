@@ -21,35 +21,7 @@ use Rattle.rules.specs.Turn.{bit}
 use Rattle.rules.proofs.Bounds.{CarriedCapped, month-capped, month-in-year, month-returns-le}
 use Rattle.ledger.specs.Board.{monthAt, storageAt, marksAt, takenAt, dueAt, carriedOf, boardOf, possible}
 use Rattle.ledger.specs.Calls.{runOf, dueAfter, boardAfter}
-use Rattle.ledger.proofs.Board.{month-place, storage-place, marks-place, taken-place, due-place, word-less}
-use Rattle.ledger.proofs.Closing.{month-most, storage-most, taken-most, due-most}
-
--- ---- a board is possible if what it carries is within bounds and its dues are
-
-module _ (b : Basin) (c : Carried) (due : ℕ → ℕ → ℕ) (in-year : c .m < 12) (capped : CarriedCapped b c) (dues : (w k : ℕ) → w < rows b → k < 11 → due w (suc k) ≤ mostDue (suc k)) where
-  abbrev l : List ℕ
-  l = boardOf b c due
-
-  due-within : (w k : ℕ) → w < 64 → k < 11 → dueAt l w (suc k) ≤ only (ltb w (rows b)) (mostDue (suc k))
-  due-within w k h o = pick (decLt w (rows b))
-    where
-      pick : Dec (w < rows b) → dueAt l w (suc k) ≤ only (ltb w (rows b)) (mostDue (suc k))
-      pick (yes y) =
-          let e : ltb w (rows b) ≡ true = ltb-yes w (rows b) y in
-          omega (arith, due-place b c due w k h o, ap (λ (t : Bool). only t (due w (suc k))) e, ap (λ (t : Bool). only t (mostDue (suc k))) e, dues w k y o)
-      pick (no y) =
-          let e : ltb w (rows b) ≡ false = ltb-no w (rows b) (omega (arith, y)) in
-          omega (arith, due-place b c due w k h o, ap (λ (t : Bool). only t (due w (suc k))) e)
-
-  pub board-possible : possible b l ≡ true
-  unfolding possible
-  board-possible =
-      and-of (and-of (and-of (and-of
-      (ltb-yes (monthAt l) 12 (omega (arith, month-place b c due, in-year)))
-      (all-make 8 _ (λ v h. leb-yes (storageAt l v) ((reservoirAt b v) .capacity) (omega (arith, storage-place b c due v h, capped .storages-most v)))))
-      (ltb-yes (marksAt l) (2 ^ length (b .reservoirs)) (omega (arith, marks-place b c due, rw (capped .marks-count) at (word-less (c .marks))))))
-      (all-make 256 _ (λ i h. leb-yes (takenAt l i) ((rightAt b i) .limit) (omega (arith, taken-place b c due i h, capped .taken-most i)))))
-      (all-make 64 _ (λ w h. all-make 11 _ (λ k m. leb-yes _ _ (due-within w k h m))))
+use Rattle.ledger.proofs.Bounds.{month-most, storage-most, taken-most, due-most, board-possible}
 
 -- ---- what a possible board carries is within bounds
 

@@ -27,7 +27,7 @@ use Rattle.basin.proofs.Accepted.{accepted-facts}
 use Rattle.basin.proofs.Rows.{rows-are}
 use Rattle.ledger.specs.Board.{monthAt, storageAt, marksAt, dueAt, wordOf, placeOf, boardOf, possible, storageSum, dueSum}
 use Rattle.ledger.specs.Calls.{freshBoard}
-use Rattle.ledger.specs.Bodies.{bodies, storageMost, takenMost, dueMost, storagesOk, takenOk, rowOk, duesOk, Sized, Bounded, startAt, startBoard}
+use Rattle.ledger.specs.Bodies.{bodies, storageMost, takenMost, dueMost, storagesOk, takenOk, rowOk, duesOk, Counted, Sized, startAt, startBoard}
 
 pub basin-bodies : (f : List ℕ) → basinOf f ≡ bodies (sectionOf f 0) (sectionOf f 1) (sectionOf f 2) (sectionOf f 3)
 unfolding basinOf bodies
@@ -165,40 +165,22 @@ module _ (st rs ps ri : List ℕ) (h : reservoirCount rs ≤ 8) where
 
 -- ---- a file that the check accepts
 
+pub counted : (f : List ℕ) → checkOf f ≡ Accepted → Counted (sectionOf f 0) (sectionOf f 1) (sectionOf f 3)
+unfolding basinOf
+counted f acc =
+    let a = accepted-facts f acc in
+    record {
+      rows-in = omega (arith, a .few-rows, rows-are (sectionOf f 0));
+      reservoirs-in = omega (arith, a .few-reservoirs, reservoirs-are (sectionOf f 1));
+      rights-in = omega (arith, a .few-rights, rights-are (sectionOf f 3));
+    }
+
 module _ (f board : List ℕ) (acc : checkOf f ≡ Accepted) (fits : length board ≡ 970) where
   pub sized : Sized (sectionOf f 0) (sectionOf f 1) (sectionOf f 3) board
-  unfolding basinOf
-  sized =
-      let a = accepted-facts f acc in
-      record {
-        rows-in = omega (arith, a .few-rows, rows-are (sectionOf f 0));
-        reservoirs-in = omega (arith, a .few-reservoirs, reservoirs-are (sectionOf f 1));
-        rights-in = omega (arith, a .few-rights, rights-are (sectionOf f 3));
-        board-long = fits;
-      }
+  sized = let n = counted f acc in record { rows-in = n .rows-in; reservoirs-in = n .reservoirs-in; rights-in = n .rights-in; board-long = fits }
 
   pub fresh-here : startBoard (sectionOf f 1) ≡ freshBoard (basinOf f)
   fresh-here = start-fresh (sectionOf f 0) (sectionOf f 1) (sectionOf f 2) (sectionOf f 3) (sized .reservoirs-in) ∙ ap freshBoard (sym (basin-bodies f))
-
-  capacity-most : (v : ℕ) → (reservoirAt (basinOf f) v) .capacity ≤ 2_000_000_000
-  capacity-most v = pick (decLt v (length ((basinOf f) .reservoirs)))
-    where
-      pick : Dec (v < length ((basinOf f) .reservoirs)) → (reservoirAt (basinOf f) v) .capacity ≤ 2_000_000_000
-      pick (yes h) = (all-at-place (GoodReservoir (basinOf f)) ((basinOf f) .reservoirs) noReservoir (accepted-facts f acc .reservoirs-good) v h) .capacity-most
-      pick (no h) = let e : reservoirAt (basinOf f) v ≡ noReservoir = List·getD-eq-default ((basinOf f) .reservoirs) noReservoir {n = v} (omega arith) in
-          omega (arith, ap (λ (x : Reservoir). x .capacity) e)
-
-  -- the sums of a possible board cannot wrap
-  pub bounded : possible (basinOf f) board ≡ true → Bounded board
-  unfolding possible
-  bounded e =
-      let a = both-of e in
-      let b = both-of (both-of (both-of (a .0) .0) .0) in
-      record {
-        long = fits;
-        storages = λ v h. omega (arith, le-of {m = storageAt board v} {n = (reservoirAt (basinOf f) v) .capacity} (all-at 8 _ (b .1) v h), capacity-most v);
-        dues = λ w k h l. omega (arith, le-of {m = dueAt board w (suc k)} {n = only (ltb w (rows (basinOf f))) (mostDue (suc k))} (all-at 11 _ (all-at 64 _ (a .1) w h) k l), only-le (ltb w (rows (basinOf f))) (mostDue (suc k)));
-      }
 
 -- ---- the sums, by body
 

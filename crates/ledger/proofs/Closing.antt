@@ -32,6 +32,7 @@ use Rattle.turns.proofs.Openings.{opened-length}
 use Rattle.turns.proofs.Places.{storage-at, taken-at, bit-suc, bit-zero}
 use Rattle.ledger.specs.Board.{monthAt, storageAt, marksAt, takenAt, dueAt, carriedOf, wordOf, boardOf, possible}
 use Rattle.ledger.specs.Calls.{runOf, dueAfter, boardAfter}
+use Rattle.ledger.proofs.Bounds.{month-most, storage-most, marks-most, taken-most, due-most, no-storage, no-taken, no-due}
 use Rattle.ledger.proofs.Board.{board-length, month-place, storage-place, marks-place, taken-place, due-place}
 use Rattle.ledger.proofs.Bodies.{due-read}
 use Rattle.ledger.proofs.Opened.{opened, opened-month, opened-storage, opened-word, opened-taken, opened-due}
@@ -113,38 +114,6 @@ returns-beyond b m i (r ∷ rs) s w k h l = omega (
   returned-beyond b (patternOf b r) w k (partsOf (r .kind) r (granted ((turn b m i r s) .grant))) (parts-in b r (r .kind) (granted ((turn b m i r s) .grant)) (h .0 .returns-ok)) l,
   returns-beyond b m (suc i) rs ((turn b m i r s) .after-returns) w k (h .1) l,
 )
-
--- ---- what a possible board holds at places that the basin does not have
-
-module _ (b : Basin) (bd : List ℕ) (can : possible b bd ≡ true) where
-  pub month-most : monthAt bd < 12
-  unfolding possible
-  month-most = lt-of {m = monthAt bd} {n = 12} ((both-of ((both-of ((both-of ((both-of can) .0)) .0)) .0)) .0)
-
-  pub storage-most : (v : ℕ) → v < 8 → storageAt bd v ≤ (reservoirAt b v) .capacity
-  unfolding possible
-  storage-most v h = le-of {m = storageAt bd v} {n = (reservoirAt b v) .capacity} (all-at 8 _ ((both-of ((both-of ((both-of ((both-of can) .0)) .0)) .0)) .1) v h)
-
-  pub marks-most : marksAt bd < 2 ^ length (b .reservoirs)
-  unfolding possible
-  marks-most = lt-of {m = marksAt bd} {n = 2 ^ length (b .reservoirs)} ((both-of ((both-of ((both-of can) .0)) .0)) .1)
-
-  pub taken-most : (i : ℕ) → i < 256 → takenAt bd i ≤ (rightAt b i) .limit
-  unfolding possible
-  taken-most i h = le-of {m = takenAt bd i} {n = (rightAt b i) .limit} (all-at 256 _ ((both-of ((both-of can) .0)) .1) i h)
-
-  pub due-most : (w k : ℕ) → w < 64 → k < 11 → dueAt bd w (suc k) ≤ only (ltb w (rows b)) (mostDue (suc k))
-  unfolding possible
-  due-most w k h l = le-of {m = dueAt bd w (suc k)} {n = only (ltb w (rows b)) (mostDue (suc k))} (all-at 11 _ (all-at 64 _ ((both-of can) .1) w h) k l)
-
-  no-storage : (v : ℕ) → v < 8 → length (b .reservoirs) ≤ v → storageAt bd v ≡ 0
-  no-storage v h l = omega (arith, storage-most v h, ap (λ (x : Reservoir). x .capacity) (List·getD-eq-default (b .reservoirs) noReservoir {n = v} l))
-
-  no-taken : (i : ℕ) → i < 256 → length (b .rights) ≤ i → takenAt bd i ≡ 0
-  no-taken i h l = omega (arith, taken-most i h, ap (λ (x : Right). x .limit) (List·getD-eq-default (b .rights) noRight {n = i} l))
-
-  no-due : (w k : ℕ) → w < 64 → k < 11 → rows b ≤ w → dueAt bd w (suc k) ≡ 0
-  no-due w k h l o = omega (arith, due-most w k h l, ap (λ (t : Bool). only t (mostDue (suc k))) (ltb-no w (rows b) o))
 
 -- ---- the month that was run
 

@@ -27,10 +27,8 @@ use Rattle.ledger.specs.Report.{reservoirsFrom, reportOf, nameIn}
 use Rattle.ledger.specs.Calls.{runOf, boardAfter, Outcome, monthSettled, NamesAllowed}
 use Rattle.ledger.specs.Steps.{mostRunoff, CanRun, Ran, CanGoOn, WentOn}
 use Rattle.ledger.proofs.Answers.{settled-some}
-use Rattle.ledger.proofs.Closing.{storage-most, due-most}
 use Rattle.ledger.proofs.After.{after-possible}
 use Rattle.ledger.proofs.Report.{evaporation-place}
-use Rattle.ledger.proofs.Running.{capacity-most}
 use Rattle.ledger.proofs.Settling.{clear-over, within-limit, shorts-most}
 
 -- ---- the contract, case by case
@@ -81,14 +79,6 @@ board-kept b acc runoff bd rp can (some a) names = can
 -- refused or not, the board is possible
 pub still-possible : (b : Basin) → Accepted b → (runoff bd rp : List ℕ) → possible b bd ≡ true → (o : Outcome) → WentOn b runoff bd rp o → possible b (o .board) ≡ true
 still-possible b acc runoff bd rp can o w = ap (λ (x : Outcome). possible b (x .board)) (w .equation) ∙ board-kept b acc runoff bd rp can (overAnswer (overLimit runoff)) (nameIn (o .report))
-
--- its sums cannot wrap
-pub bounded-of : (b : Basin) → Accepted b → (bd : List ℕ) → length bd ≡ 970 → possible b bd ≡ true → Bounded bd
-bounded-of b acc bd size can = record {
-  long = size;
-  storages = λ v h. omega (arith, storage-most b bd can v h, capacity-most b acc bd can size v);
-  dues = λ w k h l. omega (arith, due-most b bd can w k h l, only-le (ltb w (rows b)) (mostDue (suc k)));
-}
 
 -- ---- what evaporates is at most the largest area under the largest depth
 

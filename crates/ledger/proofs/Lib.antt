@@ -1,4 +1,5 @@
 pub mod Board
+pub mod Bounds
 pub mod Report
 pub mod Tally
 pub mod Demand3

@@ -34,7 +34,8 @@ use Rattle.ledger.specs.Report.{rowsFrom}
 use Rattle.ledger.specs.Steps.{mostRunoff, RowsTold, CanEnd, Ended, CanRun, Ran}
 use Rattle.ledger.proofs.Bodies.{reservoirs-are, rights-are, due-read, marks-small}
 use Rattle.ledger.proofs.Opened.{opened, opened-month, opened-storage, opened-taken, state-opened}
-use Rattle.ledger.proofs.Closing.{month-most, storage-most, marks-most, taken-most, due-most, board-left}
+use Rattle.ledger.proofs.Bounds.{month-most, storage-most, marks-most, taken-most, due-most, capacity-most, limit-most}
+use Rattle.ledger.proofs.Closing.{board-left}
 use Rattle.ledger.proofs.Reporting.{report-left, names-left, shorts-left}
 
 -- the patterns of the file are the first of the sixteen
@@ -49,20 +50,6 @@ opened-def bd p o = refl
 -- ---- what each place of a possible board holds at most
 
 module _ (b : Basin) (acc : Accepted b) (bd : List ℕ) (can : possible b bd ≡ true) (size : length bd ≡ 970) where
-  pub capacity-most : (v : ℕ) → (reservoirAt b v) .capacity ≤ 2_000_000_000
-  capacity-most v = pick (decLt v (length (b .reservoirs)))
-    where
-      pick : Dec (v < length (b .reservoirs)) → (reservoirAt b v) .capacity ≤ 2_000_000_000
-      pick (yes h) = (all-at-place (GoodReservoir b) (b .reservoirs) noReservoir (acc .reservoirs-good) v h) .capacity-most
-      pick (no h) = omega (arith, ap (λ (x : Reservoir). x .capacity) (List·getD-eq-default (b .reservoirs) noReservoir {n = v} (omega (arith, h))))
-
-  limit-most : (i : ℕ) → (rightAt b i) .limit ≤ 2_000_000_000
-  limit-most i = pick (decLt i (length (b .rights)))
-    where
-      pick : Dec (i < length (b .rights)) → (rightAt b i) .limit ≤ 2_000_000_000
-      pick (yes h) = (all-at-place (GoodRight b) (b .rights) noRight (acc .rights-good) i h) .limit-most
-      pick (no h) = omega (arith, ap (λ (x : Right). x .limit) (List·getD-eq-default (b .rights) noRight {n = i} (omega (arith, h))))
-
   due-small : (p : ℕ) → 266 ≤ p → p < 970 → getD bd p 0 ≤ 2_816_000_000_000
   due-small p h l =
       let w : ℕ = (p - 266) / 11 in
@@ -79,9 +66,9 @@ module _ (b : Basin) (acc : Accepted b) (bd : List ℕ) (can : possible b bd ≡
 
       pick : Dec (p < 1) → Dec (p < 9) → Dec (p < 10) → Dec (p < 266) → Dec (p < 970) → getD bd p 0 ≤ 2_816_000_000_000
       pick (yes x) _ _ _ _ = omega (arith, at 0 (omega (arith, x)), month-most b bd can)
-      pick (no x) (yes y) _ _ _ = omega (arith, at (1 + (p - 1)) (omega (arith, x)), storage-most b bd can (p - 1) (omega (arith, y)), capacity-most (p - 1))
+      pick (no x) (yes y) _ _ _ = omega (arith, at (1 + (p - 1)) (omega (arith, x)), storage-most b bd can (p - 1) (omega (arith, y)), capacity-most b acc (p - 1))
       pick (no x) (no y) (yes z) _ _ = omega (arith, at 9 (omega (arith, y, z)), marks-most b bd can, marks-small (length (b .reservoirs)) (acc .few-reservoirs))
-      pick (no x) (no y) (no z) (yes u) _ = omega (arith, at (10 + (p - 10)) (omega (arith, z)), taken-most b bd can (p - 10) (omega (arith, u)), limit-most (p - 10))
+      pick (no x) (no y) (no z) (yes u) _ = omega (arith, at (10 + (p - 10)) (omega (arith, z)), taken-most b bd can (p - 10) (omega (arith, u)), limit-most b acc (p - 10))
       pick (no x) (no y) (no z) (no u) (yes v) = due-small p (omega (arith, u)) v
       pick (no x) (no y) (no z) (no u) (no v) = omega (arith, List·getD-eq-default bd 0 {n = p} (omega (arith, size, v)))
 

@@ -27,7 +27,7 @@ use Rattle.basin.proofs.Rows.{rows-are}
 use Rattle.ledger.specs.Board.{possible}
 use Rattle.ledger.specs.Report.{nameIn}
 use Rattle.ledger.specs.Calls.{accepted, verdictRefusal, fileRefusal, orElse, unless, boardFits, listsFit, monthRefusal, runOf, Outcome, monthSettled, monthOf, NamesAllowed, MonthMeets}
-use Rattle.ledger.specs.Bodies.{bodies, Counted}
+use Rattle.ledger.specs.Bodies.{bodies}
 use Rattle.ledger.specs.Answers.{settled}
 use Rattle.ledger.specs.Steps.{mostRunoff, lentRefusal, CanGoOn, WentOn}
 use Rattle.ledger.proofs.Bodies.{basin-bodies, reservoirs-are, rights-are}
@@ -45,16 +45,6 @@ pub lists-told : (f runoff board report : List ℕ) {st rs ri : List ℕ} {r : B
     → ((ps : List ℕ) → r ≡ listsFit (bodies st rs ps ri) runoff board report) → r ≡ listsFit (basinOf f) runoff board report
 lists-told f runoff board report e₀ e₁ e₃ h =
     h (sectionOf f 2) ∙ (λ z. listsFit (bodies (e₀ z) (e₁ z) (sectionOf f 2) (e₃ z)) runoff board report) ∙ ap (λ (b : Basin). listsFit b runoff board report) (sym (basin-bodies f))
-
-pub counted : (f : List ℕ) → checkOf f ≡ Accepted → Counted (sectionOf f 0) (sectionOf f 1) (sectionOf f 3)
-unfolding basinOf
-counted f acc =
-    let a = accepted-facts f acc in
-    record {
-      rows-in = omega (arith, a .few-rows, rows-are (sectionOf f 0));
-      reservoirs-in = omega (arith, a .few-reservoirs, reservoirs-are (sectionOf f 1));
-      rights-in = omega (arith, a .few-rights, rights-are (sectionOf f 3));
-    }
 
 pub fits-parts : (b : Basin) (runoff board report : List ℕ) → listsFit b runoff board report ≡ true → (length runoff ≡ rows b) × (reportLength b ≤ length report) × (length board ≡ 970)
 unfolding listsFit

@@ -19,10 +19,12 @@ use Rattle.rules.specs.Month.{Carried, returnsAt, MonthRun, month}
 use Rattle.rules.specs.Tally.{Call, Answer, reportLength, overLimit, overAnswer, judged, refusal, freshCarried, Tally, fresh, pending, pendingFrom, arriving, nextRun, accept}
 use Rattle.rules.specs.Accepted.{Accepted}
 use Rattle.rules.specs.Theorems.{mostDue, Possible}
+use Rattle.rules.proofs.Bounds.{capped-of}
 use Rattle.rules.proofs.Pending.{pending-on, pending-ends}
 use Rattle.ledger.specs.Board.{monthAt, storageAt, marksAt, takenAt, dueAt, carriedOf, boardOf, possible}
 use Rattle.ledger.specs.Calls.{orElse, unless, boardFits, listsFit, freshBoard, runOf, dueAfter, boardAfter}
 use Rattle.ledger.specs.Demand3.{tallyBoard}
+use Rattle.ledger.proofs.Bounds.{board-possible}
 use Rattle.ledger.proofs.Board.{Counted, board-length, month-place, storage-place, marks-place, taken-place, due-place, due-of-row, word-less, read-back, board-same}
 
 written : (b : Basin) (t : Tally) → boardOf b (t .carried) (pending b (t .months)) ≡ tallyBoard b t
@@ -35,32 +37,9 @@ module _ (b : Basin) (acc : Accepted b) (t : Tally) (p : Possible b t) where
 
   -- ---- possible
 
-  due-within : (w k : ℕ) → w < 64 → k < 11 → leb (dueAt (tallyBoard b t) w (suc k)) (only (ltb w (rows b)) (mostDue (suc k))) ≡ true
-  unfolding tallyBoard
-  due-within w k h l = leb-yes _ _ (pick (ltb w (rows b)))
-    where
-      place : dueAt (boardOf b (t .carried) (pending b (t .months))) w (suc k) ≡ only (ltb w (rows b)) (pending b (t .months) w (suc k))
-      place = due-place b (t .carried) (pending b (t .months)) w k h l
-
-      most : (q : Bool) → only q (pending b (t .months) w (suc k)) ≤ only q (mostDue (suc k))
-      most true = p .due-most w (suc k) (omega arith)
-      most false = omega arith
-
-      pick : (q : Bool) → dueAt (boardOf b (t .carried) (pending b (t .months))) w (suc k) ≤ only (ltb w (rows b)) (mostDue (suc k))
-      pick q = omega (arith, place, most (ltb w (rows b)))
-
   pub tally-possible : possible b (tallyBoard b t) ≡ true
-  unfolding possible tallyBoard
-  tally-possible =
-      let due : ℕ → ℕ → ℕ = pending b (t .months) in
-      let c : Carried = t .carried in
-      let l : List ℕ = boardOf b c due in
-      and-of (and-of (and-of (and-of
-      (ltb-yes (monthAt l) 12 (omega (arith, month-place b c due, p .month-in-year)))
-      (all-make 8 _ (λ v h. leb-yes (storageAt l v) ((reservoirAt b v) .capacity) (omega (arith, storage-place b c due v h, p .storages-most v)))))
-      (ltb-yes (marksAt l) (2 ^ length (b .reservoirs)) (omega (arith, marks-place b c due, rw (p .marks-count) at (word-less (c .marks))))))
-      (all-make 256 _ (λ i h. leb-yes (takenAt l i) ((rightAt b i) .limit) (omega (arith, taken-place b c due i h, p .taken-most i)))))
-      (all-make 64 _ (λ w h. all-make 11 _ (λ k m. due-within w k h m)))
+  unfolding tallyBoard
+  tally-possible = board-possible b (t .carried) (pending b (t .months)) (p .month-in-year) (capped-of b t p) (λ w k h l. p .due-most w (suc k) (omega arith))
 
   -- ---- the month that it runs
 

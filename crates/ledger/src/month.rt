@@ -179,5 +179,13 @@ pub fn month(file: &[u8], runoff: &[u32], board: &mut [u64], report: &mut [u64])
     let reservoirs = section(file, RESERVOIRS);
     let patterns = section(file, PATTERNS);
     let rights = section(file, RIGHTS);
-    go_on(stations, reservoirs, patterns, rights, runoff, board, report)
+    go_on(
+        stations,
+        reservoirs,
+        patterns,
+        rights,
+        runoff,
+        board,
+        report,
+    )
 }

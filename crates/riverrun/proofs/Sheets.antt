@@ -25,7 +25,8 @@ use Rattle.ledger.specs.Demand3.{tallyBoard}
 use Rattle.ledger.specs.Report.{reservoirsFrom}
 use Rattle.ledger.specs.Steps.{CanGoOn, WentOn}
 use Rattle.ledger.proofs.Bodies.{basin-bodies, reservoirs-are, rights-are, start-length, fresh-here}
-use Rattle.ledger.proofs.Going.{still-possible, bounded-of, losses-told}
+use Rattle.ledger.proofs.Bounds.{bounded}
+use Rattle.ledger.proofs.Going.{still-possible, losses-told}
 use Rattle.ledger.proofs.Tally.{tally-possible, tally-fresh}
 use Rattle.riverrun.specs.Sheets.{sheetOf, Lent, CanPrint}
 
@@ -72,7 +73,7 @@ module _ (st rs ps ri sheet runoff bd rp out : List ℕ) (l : Lent st rs ps ri s
 
     pub can-print : length (o .board) ≡ 970 → length (o .report) ≡ length rp → (o .answer) .number ≡ 0 → CanPrint st rs ri (o .board) (o .report) out
     can-print size told none = record {
-      board = bounded-of b (l .accepted) (o .board) size can-still;
+      board = bounded b (l .accepted) (o .board) size can-still;
       list = record {
         few = omega (arith, rights-count, l .accepted .few-rights);
         some-row = omega (arith, rows-count, l .accepted .connected .some-row);

@@ -18,7 +18,7 @@ use denote.Ref.{now}
 use Rattle.general.proofs.Lists.{getD-zeros}
 use Rattle.ledger.specs.Bodies.{bodies}
 use Rattle.ledger.proofs.Opened.{falses, opened-month}
-use Rattle.ledger.proofs.Closing.{month-most}
+use Rattle.ledger.proofs.Bounds.{month-most}
 use Rattle.ledger.proofs.Running.{run-rows, run-patterns, run-rights, setting, can-gather, can-serve, can-end, ran}
 
 -- src/month.rt:110:17

@@ -11,9 +11,9 @@ use mathlib.Core.Path.{sym, _∙_}
 use native.Mathlib.Omega.{arith}
 use borrow.Author.Tests.{not-true, not-false}
 use denote.Ref.{now}
-use Rattle.ledger.proofs.Bodies.{sized, possible-told}
+use Rattle.ledger.proofs.Bodies.{counted, sized, possible-told}
 use Rattle.ledger.proofs.Answers.{accepted-of}
-use Rattle.ledger.proofs.Settling.{lists-told, counted, fits-parts, lent-file, lent-unfit, lent-impossible, lent-good}
+use Rattle.ledger.proofs.Settling.{lists-told, fits-parts, lent-file, lent-unfit, lent-impossible, lent-good}
 use Rattle.basin.specs.Records.{basinOf}
 
 -- src/settle.rt:69:9

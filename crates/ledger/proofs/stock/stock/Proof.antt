@@ -9,7 +9,10 @@ use Rattle.general.specs.Sums.{sumTo}
 use Rattle.basin.specs.File.{sectionOf}
 use Rattle.basin.specs.Records.{rowsOf, reservoirCount}
 use Rattle.ledger.specs.Board.{storageAt, dueAt}
-use Rattle.ledger.proofs.Bodies.{sized, bounded, storage-told, due-told}
+use Rattle.basin.specs.Records.{basinOf}
+use Rattle.basin.proofs.Accepted.{accepted-facts}
+use Rattle.ledger.proofs.Bodies.{sized, storage-told, due-told}
+use Rattle.ledger.proofs.Bounds.{bounded}
 use Rattle.ledger.proofs.Answers.{stock-refused, stock-clear, stock-made}
 use Rattle.ledger.proofs.stock.stock.Statement.{statement}
 use Rattle.ledger.proofs.stock.stock.Tie as tie
@@ -29,7 +32,7 @@ storage-sum-requires c κs =
     let b = now (c .before .before .before .before .before .before .args .board) in
     let k = stock-clear f b _ (c .before .before .before .on-board .ensures) (omega arith) in
     let n : reservoirCount (sectionOf f 1) ≤ 8 = sized f b (k .0) (k .1) .reservoirs-in in
-    (rw (c .section .ensures) n, bounded f b (k .0) (k .1) (k .2))
+    (rw (c .section .ensures) n, bounded (basinOf f) (accepted-facts f (k .0)) b (k .1) (k .2))
 
 section-requires-2 : tie.Need-section-requires-2
 section-requires-2 c κs = search needs
@@ -40,7 +43,7 @@ due-sum-requires c κs =
     let b = now (c .before .before .before .before .before .before .before .before .args .board) in
     let k = stock-clear f b _ (c .before .before .before .before .before .on-board .ensures) (omega arith) in
     let n : rowsOf (sectionOf f 0) ≤ 64 = sized f b (k .0) (k .1) .rows-in in
-    (rw (c .section2 .ensures) n, bounded f b (k .0) (k .1) (k .2))
+    (rw (c .section2 .ensures) n, bounded (basinOf f) (accepted-facts f (k .0)) b (k .1) (k .2))
 
 returns-2 : tie.Need-returns-2
 returns-2 c =
