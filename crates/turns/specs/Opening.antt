@@ -50,3 +50,17 @@ openedAt bd october p =
 
 unfoldable pub openedBoard : List ℕ → Bool → List ℕ
 openedBoard bd october = tab 970 (openedAt bd october)
+
+-- ---- its three steps
+
+-- marks and water taken become 0 in October
+unfoldable pub clearedAt : List ℕ → Bool → ℕ → ℕ
+clearedAt bd october p = cond (ltb p 9) (getD bd p 0) (cond (ltb p 266) (cond october 0 (getD bd p 0)) (getD bd p 0))
+
+-- each due but the board's last becomes the next one on the board
+unfoldable pub movedAt : List ℕ → ℕ → ℕ
+movedAt bd p = cond (ltb p 266) (getD bd p 0) (cond (ltb p 969) (getD bd (p + 1) 0) (getD bd p 0))
+
+-- the last due of each row becomes 0
+unfoldable pub endedAt : List ℕ → ℕ → ℕ
+endedAt bd p = cond (ltb p 266) (getD bd p 0) (cond (eqb ((p - 266) % 11) 10) 0 (getD bd p 0))

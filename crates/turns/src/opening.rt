@@ -1,8 +1,8 @@
 // The river before the first right.
 ghost use mathlib.Core.Path.{_≡_};
-ghost use Prim.Native.Nat.{_<_};
 ghost use lib.ListN.{length};
-ghost use Rattle.turns.specs.Opening.{CanGather, Gathered, openedAt, openedBoard};
+ghost use Rattle.general.specs.Tables.{tab};
+ghost use Rattle.turns.specs.Opening.{CanGather, Gathered, clearedAt, movedAt, endedAt, openedBoard};
 use crate::numbers::wide32;
 use river::put_back;
 
@@ -24,32 +24,45 @@ pub fn gather(
     }
 }
 
-// What place p holds as a month opens: storages stay, in October marks and water taken are cleared, and dues come one month nearer.
-fn opened_at(board: &[u64], october: bool, p: usize) -> u64
-    requires { ⌜ (length (now board) ≡ 970) × (p < 970) ⌝ }
-    ensures { λ r. ⌜ r ≡ openedAt (now (board .entry)) october p ⌝ }
+// In October marks and water taken are cleared. Storages, before them, and dues, after them, stay.
+fn clear_year(board: &mut [u64], october: bool)
+    requires { ⌜ length (now board) ≡ 970 ⌝ }
+    ensures { λ _. ⌜ now (board .exit) ≡ tab 970 (clearedAt (now (board .entry)) october) ⌝ }
 {
-    if p < 9 {
-        return board[p];
+    if !october {
+        return;
     }
-    if p < 266 {
-        if october {
-            return 0;
-        }
-        return board[p];
+    for p in 9..266 {
+        board[p] = 0;
     }
-    if (p - 266) % 11 == 10 {
-        return 0;
-    }
-    board[p + 1]
 }
 
-// From the front, since each place is filled from itself or the next.
+// All dues of all rows as one list, so that they move as one block: the last of a row takes what was the next row's first.
+fn move_dues(board: &mut [u64])
+    requires { ⌜ length (now board) ≡ 970 ⌝ }
+    ensures { λ _. ⌜ now (board .exit) ≡ tab 970 (movedAt (now (board .entry))) ⌝ }
+{
+    for p in 266..969 {
+        board[p] = board[p + 1];
+    }
+}
+
+// The last due of each row.
+fn clear_last(board: &mut [u64])
+    requires { ⌜ length (now board) ≡ 970 ⌝ }
+    ensures { λ _. ⌜ now (board .exit) ≡ tab 970 (endedAt (now (board .entry))) ⌝ }
+{
+    for w in 0..64 {
+        board[276 + 11 * w] = 0;
+    }
+}
+
+// Three plain loops, since one that asks at each place what is kept there costs a small basin more than its rights.
 pub fn open_board(board: &mut [u64], october: bool)
     requires { ⌜ length (now board) ≡ 970 ⌝ }
     ensures { λ _. ⌜ now (board .exit) ≡ openedBoard (now (board .entry)) october ⌝ }
 {
-    for p in 0..970 {
-        board[p] = opened_at(board, october, p);
-    }
+    clear_year(board, october);
+    move_dues(board);
+    clear_last(board);
 }
