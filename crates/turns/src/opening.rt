@@ -2,11 +2,26 @@
 ghost use mathlib.Core.Path.{_≡_};
 ghost use lib.ListN.{length};
 ghost use Rattle.general.specs.Tables.{tab};
-ghost use Rattle.turns.specs.Opening.{CanGather, Gathered, clearedAt, movedAt, endedAt, openedBoard};
+ghost use Rattle.turns.specs.Opening.{CanSend, Sent, CanGather, Gathered, clearedAt, movedAt, endedAt, openedBoard};
 use crate::numbers::wide32;
-use river::put_back;
+use basin::network::Below;
+use basin::network::next_row;
 
-// What enters at each row of the sheet, runoff and the returns that arrive, flows down its path. Available flow starts equal to flow.
+// At a row, with d that enters there: its flow is all that has come down to it, which goes on to the row below. Available flow starts equal.
+fn send_down(below: &[u8; 64], flow: &mut [u64; 64], available: &mut [u64; 64], row: usize, d: u64)
+    requires { ⌜ CanSend (now below) row d (now flow) (now available) ⌝ }
+    ensures { λ _. ⌜ Sent (now (below .entry)) row d (now (flow .entry)) (now (available .entry)) (now (flow .exit)) (now (available .exit)) ⌝ }
+{
+    let x = flow[row] + d;
+    flow[row] = x;
+    available[row] = x;
+    if let Below::Row(next) = next_row(below, row) {
+        flow[next] = flow[next] + x;
+    }
+}
+
+// What enters at each row of the sheet, runoff and the returns that arrive, flows down its path. A row below is a later row, so that one
+// step from each row, first row first, is enough.
 pub fn gather(
     below: &[u8; 64],
     runoff: &[u32],
@@ -20,7 +35,7 @@ pub fn gather(
     let n = runoff.len();
     for row in 0..n {
         let d = wide32(runoff[row]) + board[266 + 11 * row];
-        put_back(below, flow, available, row, d);
+        send_down(below, flow, available, row, d);
     }
 }
 
