@@ -1,4 +1,4 @@
-// The river before the first right.
+// The river and the board before the first right.
 ghost use mathlib.Core.Path.{_≡_};
 ghost use lib.ListN.{length};
 ghost use Rattle.general.specs.Tables.{tab};
@@ -7,7 +7,8 @@ use crate::numbers::wide32;
 use basin::network::Below;
 use basin::network::next_row;
 
-// At a row, with d that enters there: its flow is all that has come down to it, which goes on to the row below. Available flow starts equal.
+// At a row where d enters: its flow is d and all that has come down to it, and goes on to the row below. Available flow starts equal to
+// flow.
 fn send_down(below: &[u8; 64], flow: &mut [u64; 64], available: &mut [u64; 64], row: usize, d: u64)
     requires { ⌜ CanSend (now below) row d (now flow) (now available) ⌝ }
     ensures { λ _. ⌜ Sent (now (below .entry)) row d (now (flow .entry)) (now (available .entry)) (now (flow .exit)) (now (available .exit)) ⌝ }
@@ -52,7 +53,7 @@ fn clear_year(board: &mut [u64], october: bool)
     }
 }
 
-// All dues of all rows as one list, so that they move as one block: the last of a row takes what was the next row's first.
+// The dues of all rows as one list, so that they move as one block. The last of a row takes the next row's first, until `clear_last`.
 fn move_dues(board: &mut [u64])
     requires { ⌜ length (now board) ≡ 970 ⌝ }
     ensures { λ _. ⌜ now (board .exit) ≡ tab 970 (movedAt (now (board .entry))) ⌝ }
@@ -62,7 +63,7 @@ fn move_dues(board: &mut [u64])
     }
 }
 
-// The last due of each row.
+// The last due of each row is 0.
 fn clear_last(board: &mut [u64])
     requires { ⌜ length (now board) ≡ 970 ⌝ }
     ensures { λ _. ⌜ now (board .exit) ≡ tab 970 (endedAt (now (board .entry))) ⌝ }

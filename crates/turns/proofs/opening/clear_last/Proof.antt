@@ -1,5 +1,5 @@
 -- `turns::opening::clear_last` meets its contract. The loop's invariant: the rows passed are done, the others as they were. Assumes nothing.
-use mathlib.Core.Path.{_≡_, subst}
+use mathlib.Core.Path.{subst}
 use Prim.Native.Nat.{ℕ, _+_, _-_, _*_, _≤_}
 use native.Mathlib.Omega.{arith}
 use borrow.Author.Needs.{needs}

@@ -1,8 +1,5 @@
 -- `turns::opening::open_board` meets its contract. Assumes nothing.
-use mathlib.Core.Path.{_≡_, sym, ap, _∙_}
-use lib.ListN.{length}
 use denote.Ref.{now}
-use Rattle.general.proofs.Tables.{tab-length}
 use Rattle.turns.proofs.Openings.{opened-is}
 use borrow.Author.Needs.{needs}
 use Rattle.turns.proofs.opening.open_board.Statement.{statement}

@@ -1,8 +1,8 @@
 -- `turns::opening::send_down` meets its contract. Assumes nothing.
-use mathlib.Core.Path.{_≡_, refl, sym, ap, _∙_}
+use mathlib.Core.Path.{refl, sym, ap, _∙_}
 use Prim.Native.Nat.{ℕ, _+_}
 use native.Mathlib.Omega.{arith}
-use lib.ListN.{getD, length-set}
+use lib.ListN.{getD}
 use denote.Ref.{now}
 use Rattle.basin.proofs.Table.{walk-on}
 use Rattle.turns.proofs.Openings.{next-still, sent-on, sent-last}
