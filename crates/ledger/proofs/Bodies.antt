@@ -6,11 +6,12 @@ use Prim.Native.Nat.{ℕ, zero, suc, _+_, _-_, _*_, _/_, _^_, _≤_, _<_}
 use native.Mathlib.Nat.{pow-le-pow-right}
 use native.Mathlib.Decide.{decLt}
 use native.Mathlib.Omega.{arith}
-use lib.Dec.{ltb, eqb}
+use borrow.Author.Tests.{lt-leb}
+use lib.Dec.{leb, ltb, eqb}
 use lib.ListN.{length, getD, replicate, List·getD-eq-default}
 use Rattle.general.specs.Sums.{only, sumTo}
-use Rattle.general.specs.Tests.{_and_}
-use Rattle.general.proofs.Tests.{eqb-other, by-eqb, ltb-yes, ltb-no, both-of, le-of, only-le}
+use Rattle.general.specs.Tests.{_and_, allTo}
+use Rattle.general.proofs.Tests.{eqb-other, by-eqb, leb-yes, ltb-yes, ltb-no, both-of, le-of, only-le}
 use Rattle.general.proofs.Search.{all-at}
 use Rattle.general.proofs.Tables.{tab-length, tab-at, tab-past, tab-same}
 use Rattle.general.proofs.Lists.{getD-zeros, getD-map-in, all-at-place}
@@ -25,9 +26,9 @@ use Rattle.basin.specs.Records.{rowsOf, stationsOf, reservoirCount, reservoirRe
 use Rattle.basin.specs.Check.{checkOf}
 use Rattle.basin.proofs.Accepted.{accepted-facts}
 use Rattle.basin.proofs.Rows.{rows-are}
-use Rattle.ledger.specs.Board.{monthAt, storageAt, marksAt, dueAt, wordOf, placeOf, boardOf, possible, storageSum, dueSum}
+use Rattle.ledger.specs.Board.{monthAt, storageAt, marksAt, takenAt, dueAt, wordOf, placeOf, boardOf, possible, storageSum, dueSum}
 use Rattle.ledger.specs.Calls.{freshBoard}
-use Rattle.ledger.specs.Bodies.{bodies, storageMost, takenMost, dueMost, storagesOk, takenOk, rowOk, duesOk, Counted, Sized, startAt, startBoard}
+use Rattle.ledger.specs.Bodies.{bodies, storageMost, takenMost, dueMost, storagesOk, heldOk, unusedOk, takenOk, rowOk, duesOk, Counted, Sized, startAt, startBoard}
 
 pub basin-bodies : (f : List ℕ) → basinOf f ≡ bodies (sectionOf f 0) (sectionOf f 1) (sectionOf f 2) (sectionOf f 3)
 unfolding basinOf bodies
@@ -73,9 +74,55 @@ some-due n w k h = let e : 12 - suc k ≡ 11 - k = omega arith in rw (ltb-yes w 
 pub due-read : (board : List ℕ) (w k : ℕ) → getD board (266 + 11 * w + k) 0 ≡ dueAt board w (suc k)
 due-read board w k = ap (λ (p : ℕ). getD board p 0) (omega arith)
 
+-- the j-th place past n rights
+pub free-read : (board : List ℕ) (n j : ℕ) → getD board (10 + n + j) 0 ≡ takenAt board (n + j)
+free-read board n j = ap (λ (p : ℕ). getD board p 0) (omega arith)
+
 -- the word of eight marks is small
 pub marks-small : (n : ℕ) → n ≤ 8 → 2 ^ n ≤ 256
 marks-small n h = pow-le-pow-right {n = 2} (omega arith) {i = n} {j = 8} h
+
+-- ---- a test of all places in two parts
+
+and-three : (a b c : Bool) → ((a and b) and c) ≡ (a and (b and c))
+unfolding _and_
+and-three true b c = refl
+and-three false b c = refl
+
+and-true : (a : Bool) → a ≡ (a and true)
+unfolding _and_
+and-true true = refl
+and-true false = refl
+
+all-parts : (n m : ℕ) (t : ℕ → Bool) → allTo (n + m) t ≡ (allTo n t and allTo m (λ j. t (n + j)))
+unfolding allTo
+all-parts n zero t = let e : n + 0 ≡ n = omega arith in ap (λ (k : ℕ). allTo k t) e ∙ and-true (allTo n t)
+all-parts n (suc m) t =
+    let e : n + suc m ≡ suc (n + m) = omega arith in
+    ap (λ (k : ℕ). allTo k t) e ∙ ap (λ (x : Bool). x and t (n + m)) (all-parts n m t) ∙ and-three (allTo n t) (allTo m (λ j. t (n + j))) (t (n + m))
+
+all-same : (n : ℕ) (s t : ℕ → Bool) → ((i : ℕ) → i < n → s i ≡ t i) → allTo n s ≡ allTo n t
+unfolding allTo
+all-same zero s t h = refl
+all-same (suc n) s t h = λ z. all-same n s t (λ i l. h i (omega arith)) z and h n (omega arith) z
+
+low-zero : (x y : ℕ) → 0 ≡ y → leb x y ≡ eqb x 0
+low-zero x y e = by-eqb x 0 (λ t. leb x y ≡ t) (λ z. leb-yes x y (omega (arith, z))) (λ z. lt-leb x y (omega (arith, z, e)))
+
+pub taken-parts : (ri board : List ℕ) → rightCount ri ≤ 256 → (heldOk ri board and unusedOk (rightCount ri) board) ≡ takenOk ri board
+unfolding heldOk unusedOk takenOk
+taken-parts ri board h = sym
+    (ap (λ (k : ℕ). allTo k low) all
+    ∙ all-parts (rightCount ri) (256 - rightCount ri) low
+    ∙ ap (λ (x : Bool). allTo (rightCount ri) low and x)
+    (all-same (256 - rightCount ri) (λ j. low (rightCount ri + j)) (λ j. eqb (takenAt board (rightCount ri + j)) 0)
+    (λ j l. low-zero (takenAt board (rightCount ri + j)) (takenMost ri (rightCount ri + j)) (no-taken ri (rightCount ri + j) (omega arith)))))
+  where
+    low : ℕ → Bool
+    low i = leb (takenAt board i) (takenMost ri i)
+
+    all : 256 ≡ rightCount ri + (256 - rightCount ri)
+    all = omega (arith, h)
 
 -- ---- possible, body by body
 

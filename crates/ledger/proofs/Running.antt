@@ -26,7 +26,7 @@ use Rattle.turns.specs.Losses.{Lost}
 use Rattle.turns.specs.Opening.{mostInflow, inflow, CanGather, Gathered, openedAt, openedBoard}
 use Rattle.turns.specs.Returning.{dueIn, RiverOk, BoardOk}
 use Rattle.turns.specs.State.{stateOf, Setting, Within}
-use Rattle.turns.proofs.Facts.{downhill}
+use Rattle.turns.proofs.Facts.{downhill, path-in}
 use Rattle.turns.proofs.Openings.{gathered-river, opening-is, opened-length, opened-place}
 use Rattle.ledger.specs.Bodies.{bodies}
 use Rattle.ledger.specs.Board.{monthAt, storageAt, marksAt, takenAt, dueAt, carriedOf, possible}
@@ -141,6 +141,7 @@ module _ (st rs ps ri runoff bd rp : List ℕ) (c : CanRun st rs ps ri runoff bd
     downhill = downhill b st t rs pa ri setting;
     sheet = omega (arith, c .sheet, c .accepted .few-rows);
     size = c .size;
+    within = λ j i h e. omega (arith, c .sheet, path-in b st t rs pa ri setting j (omega (arith, c .sheet)) i e);
     small = λ j. omega (arith, c .small j, place-small b (c .accepted) bd (c .can) (c .size) (266 + 11 * j));
     places = hf;
     places₂ = ha;

@@ -2,7 +2,7 @@
 use mathlib.Core.Path.{_≡_}
 use mathlib.Core.Bool.{Bool, cond}
 use mathlib.Core.List.{List, map}
-use Prim.Native.Nat.{ℕ, suc, _-_, _≤_, _<_}
+use Prim.Native.Nat.{ℕ, suc, _+_, _-_, _≤_, _<_}
 use lib.Dec.{leb, ltb, eqb}
 use lib.ListN.{length, getD}
 use Rattle.general.specs.Sums.{only}
@@ -35,6 +35,13 @@ storagesOk rs board = allTo 8 (λ v. leb (storageAt board v) (storageMost rs v))
 
 unfoldable pub takenOk : List ℕ → List ℕ → Bool
 takenOk ri board = allTo 256 (λ i. leb (takenAt board i) (takenMost ri i))
+
+-- its two parts: the rights that there are, and the places past n rights
+unfoldable pub heldOk : List ℕ → List ℕ → Bool
+heldOk ri board = allTo (rightCount ri) (λ i. leb (takenAt board i) (takenMost ri i))
+
+unfoldable pub unusedOk : ℕ → List ℕ → Bool
+unusedOk n board = allTo (256 - n) (λ j. eqb (takenAt board (n + j)) 0)
 
 unfoldable pub rowOk : ℕ → List ℕ → ℕ → Bool
 rowOk n board w = allTo 11 (λ k. leb (dueAt board w (suc k)) (dueMost n w k))

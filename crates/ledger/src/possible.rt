@@ -4,8 +4,9 @@ ghost use mathlib.Core.Path.{_≡_};
 ghost use mathlib.Core.List.{List};
 ghost use Prim.Native.Nat.{ℕ, _≤_, _<_, _^_};
 ghost use lib.ListN.{length};
+ghost use Rattle.basin.specs.Records.{rightCount};
 ghost use Rattle.ledger.specs.Board.{possible};
-ghost use Rattle.ledger.specs.Bodies.{bodies, storageMost, takenMost, dueMost, storagesOk, takenOk, rowOk, duesOk, Sized};
+ghost use Rattle.ledger.specs.Bodies.{bodies, storageMost, takenMost, dueMost, storagesOk, heldOk, unusedOk, takenOk, rowOk, duesOk, Sized};
 use basin::bytes::le32;
 use basin::conditions::both;
 
@@ -49,15 +50,37 @@ fn taken_most(rights: &[u8], i: usize) -> u64
     wide(le32(rights, 76 * i + 16))
 }
 
-fn taken_ok(rights: &[u8], board: &[u64]) -> bool
-    requires { ⌜ length (now board) ≡ 970 ⌝ }
-    ensures { λ r. ⌜ r ≡ takenOk (now (rights .entry)) (now (board .entry)) ⌝ }
+// Each right within its limit.
+fn held_ok(rights: &[u8], board: &[u64]) -> bool
+    requires { ⌜ (length (now board) ≡ 970) × (rightCount (now rights) ≤ 256) ⌝ }
+    ensures { λ r. ⌜ r ≡ heldOk (now (rights .entry)) (now (board .entry)) ⌝ }
 {
+    let n = rights.len() / 76;
     let mut all = true;
-    for i in 0..256 {
+    for i in 0..n {
         all = both(all, board[10 + i] <= taken_most(rights, i));
     }
     all
+}
+
+// Zeros past the n rights. A loop of its own, with no limit to look up: a small basin's board is mostly these places.
+fn unused_ok(n: usize, board: &[u64]) -> bool
+    requires { ⌜ (length (now board) ≡ 970) × (n ≤ 256) ⌝ }
+    ensures { λ r. ⌜ r ≡ unusedOk n (now (board .entry)) ⌝ }
+{
+    let free = 256 - n;
+    let mut all = true;
+    for j in 0..free {
+        all = both(all, board[10 + n + j] == 0);
+    }
+    all
+}
+
+fn taken_ok(rights: &[u8], board: &[u64]) -> bool
+    requires { ⌜ (length (now board) ≡ 970) × (rightCount (now rights) ≤ 256) ⌝ }
+    ensures { λ r. ⌜ r ≡ takenOk (now (rights .entry)) (now (board .entry)) ⌝ }
+{
+    both(held_ok(rights, board), unused_ok(rights.len() / 76, board))
 }
 
 // What can be due at row w of n, k months after next month: what 11 - k past months have sent there.
