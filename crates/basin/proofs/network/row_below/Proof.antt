@@ -1,6 +1,6 @@
 -- `basin::network::row_below` meets its contract. The loop's invariant: the rows not yet looked at give the answer that is asked for. Assumes nothing.
-use mathlib.Core.Path.{_≡_, refl, sym, _∙_}
-use Prim.Native.Nat.{_-_, _≤_}
+use mathlib.Core.Path.{_≡_, refl, sym, ap, _∙_}
+use Prim.Native.Nat.{ℕ, _+_, _-_, _≤_}
 use native.Mathlib.Omega.{arith}
 use borrow.Author.Needs.{needs}
 use denote.Ref.{now}
@@ -32,7 +32,7 @@ order-at-requires-2 c κs = search needs
 returns : tie.Need-returns Inv-loop μ-loop
 returns c =
     let d = c .before .before .before in
-    sym (below-same (now (c .before .before .before .before .before .before .args .stations)) (d .before .order-at .result) (d .loop .later) (omega arith) (cc)) ∙ d .loop .inv .2
+    sym (below-same (now (c .before .before .before .before .before .before .args .stations)) (d .before .order-at .result) (d .loop .later) (omega arith) (sym (c .before .order-at2 .ensures .0) ∙ c .if1 .taken)) ∙ d .loop .inv .2
 
 add-if2 : tie.Need-add-if2 Inv-loop μ-loop
 add-if2 c = search needs
@@ -40,7 +40,8 @@ add-if2 c = search needs
 returns-2 : tie.Need-returns-2 Inv-loop μ-loop
 returns-2 c =
     let d = c .before .before .before .before in
-    sym (below-less (now (c .before .before .before .before .before .before .before .args .stations)) (d .before .order-at .result) (d .loop .later) (omega arith) (λ e. c .before .if1 .left (cc)) (cc)) ∙ d .loop .inv .2
+    let x = c .before .before .order-at2 .ensures .0 in
+    sym (below-less (now (c .before .before .before .before .before .before .before .args .stations)) (d .before .order-at .result) (d .loop .later) (omega arith) (λ e. c .before .if1 .left (x ∙ e)) (ap (λ (k : ℕ). k + 1) (sym x) ∙ c .if2 .taken)) ∙ d .loop .inv .2
 
 add-later-2 : tie.Need-add-later-2 Inv-loop μ-loop
 add-later-2 c = search needs
@@ -51,7 +52,8 @@ loop-less c = search needs
 loop-again : tie.Need-loop-again Inv-loop μ-loop
 loop-again c =
     let d = c .before .before .before .before in
-    (omega arith, omega arith, sym (below-on (now (c .before .before .before .before .before .before .before .args .stations)) (d .before .order-at .result) (d .loop .later) (omega arith) (λ e. c .before .if1 .left (cc)) (λ e. c .if2 .left (cc))) ∙ d .loop .inv .2)
+    let x = c .before .before .order-at2 .ensures .0 in
+    (omega arith, omega arith, sym (below-on (now (c .before .before .before .before .before .before .before .args .stations)) (d .before .order-at .result) (d .loop .later) (omega arith) (λ e. c .before .if1 .left (x ∙ e)) (λ e. c .if2 .left (ap (λ (k : ℕ). k + 1) x ∙ e))) ∙ d .loop .inv .2)
 
 returns-3 : tie.Need-returns-3 Inv-loop μ-loop
 returns-3 c =

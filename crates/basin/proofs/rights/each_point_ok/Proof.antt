@@ -6,7 +6,7 @@ use Prim.Native.Nat.{ℕ, _-_, _≤_}
 use native.Mathlib.Omega.{arith}
 use borrow.Author.Needs.{needs}
 use denote.Ref.{now}
-use Rattle.general.specs.Tests.{allTo}
+use Rattle.general.specs.Tests.{_and_, allTo}
 use Rattle.general.proofs.Loops.{all-none, all-more}
 use Rattle.basin.specs.Records.{returnRow, returnPercent}
 use Rattle.basin.specs.FileRules.{pointOk, eachPointOk}
@@ -15,6 +15,10 @@ use Rattle.basin.proofs.rights.each_point_ok.Tie as tie
 
 abbrev good : ℕ → ℕ → List ℕ → ℕ → ℕ → Bool
 good n from s i k = pointOk n from (returnRow s i k) (returnPercent s i k)
+
+-- the point as it was read
+ruled : (n from : ℕ) (s : List ℕ) (i k : ℕ) (a : Bool) {w y q : ℕ} {p b : Bool} → w ≡ returnRow s i k → y ≡ w → q ≡ returnPercent s i k → p ≡ pointOk n from y q → b ≡ (a and p) → b ≡ (a and good n from s i k)
+ruled n from s i k a ew ey eq ep eb = cc
 
 abbrev Inv-loop : tie.InvT-loop
 Inv-loop n from rights i points all₀ k₀ all k = (k ≤ points) × (all ≡ allTo k (good n from rights i))
@@ -47,7 +51,7 @@ loop-less : tie.Need-loop-less Inv-loop μ-loop
 loop-less c = search needs
 
 loop-again : tie.Need-loop-again Inv-loop μ-loop
-loop-again c = let a = c .before .before .before .before .before .before .before .before .args in (omega arith, all-more (good (a .n) (a .from) (now (a .rights)) (a .i)) (c .before .before .before .before .before .before .loop .k) _ _ (c .before .before .before .before .before .before .loop .inv .1) (cc))
+loop-again c = let a = c .before .before .before .before .before .before .before .before .args in (omega arith, all-more (good (a .n) (a .from) (now (a .rights)) (a .i)) (c .before .before .before .before .before .before .loop .k) _ _ (c .before .before .before .before .before .before .loop .inv .1) (ruled (a .n) (a .from) (now (a .rights)) (a .i) (c .before .before .before .before .before .before .loop .k) (c .before .before .before .before .before .before .loop .all) (c .before .before .before .before .return-row .ensures) (c .before .before .before .index .ensures .0) (c .before .before .return-percent .ensures) (c .before .point-ok .ensures) (c .both .ensures)))
 
 returns : tie.Need-returns Inv-loop μ-loop
 unfolding eachPointOk

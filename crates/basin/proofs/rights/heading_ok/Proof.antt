@@ -1,8 +1,23 @@
 -- `basin::rights::heading_ok` meets its contract. Assumes nothing.
+use mathlib.Core.Bool.{Bool}
+use mathlib.Core.Path.{_≡_}
+use Prim.Native.Nat.{ℕ}
 use borrow.Author.Needs.{needs}
-use Rattle.basin.specs.FileRules.{headingOk}
+use lib.Dec.{leb, ltb}
+use Rattle.general.specs.Tests.{_and_, between}
+use Rattle.basin.specs.declared.rights.RightRecord.{RightRecord}
+use Rattle.basin.specs.FileRules.{dateOk, limitOk, headingOk}
 use Rattle.basin.proofs.rights.heading_ok.Statement.{statement}
 use Rattle.basin.proofs.rights.heading_ok.Tie as tie
+
+-- the answers of the rules, and their conjunctions one after the other
+ruled : (n : ℕ) (r : RightRecord) {k w : ℕ} {a₁ a₂ a₃ l b₁ b₂ b₃ b₄ b₅ b₆ : Bool}
+    → a₁ ≡ between 1 (r .permit) 999_999_999 → a₂ ≡ dateOk (r .date) → b₁ ≡ (a₁ and a₂) → k ≡ r .kind → a₃ ≡ between 1 k 4
+    → b₂ ≡ (b₁ and a₃) → w ≡ r .row → b₃ ≡ (b₂ and ltb w n) → b₄ ≡ (b₃ and leb (r .points) 4) → b₅ ≡ (b₄ and ltb (r .months) 4096)
+    → l ≡ limitOk (r .kind) (r .limit) → b₆ ≡ (b₅ and l)
+    → b₆ ≡ headingOk n r
+unfolding headingOk
+ruled n r e₁ e₂ e₃ e₄ e₅ e₆ e₇ e₈ e₉ e₁₀ e₁₁ e₁₂ = cc
 
 in-range-requires : tie.Need-in-range-requires
 in-range-requires c κs = search needs
@@ -41,8 +56,10 @@ both-requires-6 : tie.Need-both-requires-6
 both-requires-6 c κs = search needs
 
 returns : tie.Need-returns
-unfolding headingOk
-returns c = cc
+returns c =
+    let a = c .before .before .before .before .before .before .before .before .before .before .before .before .before .before .args in
+    ruled (a .n) (a .r) (c .before .before .before .before .before .before .before .before .before .before .before .before .before .in-range .ensures) (c .before .before .before .before .before .before .before .before .before .before .before .before .date-ok .ensures) (c .before .before .before .before .before .before .before .before .before .before .before .both .ensures) (c .before .before .before .before .before .before .before .before .before .before .wide32 .ensures .0) (c .before .before .before .before .before .before .before .before .before .in-range2 .ensures)
+    (c .before .before .before .before .before .before .before .before .both2 .ensures) (c .before .before .before .before .before .before .before .index .ensures .0) (c .before .before .before .before .before .before .both3 .ensures) (c .before .before .before .before .both4 .ensures) (c .before .before .both5 .ensures) (c .before .limit-ok .ensures) (c .both6 .ensures)
 
 pub heading-ok-spec : {M : Type 1} → statement M
 heading-ok-spec =

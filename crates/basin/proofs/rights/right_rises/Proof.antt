@@ -1,9 +1,21 @@
 -- `basin::rights::right_rises` meets its contract. Assumes nothing.
+use mathlib.Core.Bool.{Bool}
+use mathlib.Core.List.{List}
+use mathlib.Core.Path.{_≡_}
+use Prim.Native.Nat.{ℕ, _-_}
 use borrow.Author.Tests.{eq-eqb, ne-eqb}
 use borrow.Author.Needs.{needs}
-use Rattle.basin.specs.FileRules.{rightRises}
+use denote.Ref.{now}
+use Rattle.basin.specs.declared.rights.RightRecord.{RightRecord}
+use Rattle.basin.specs.Records.{rightRecord}
+use Rattle.basin.specs.FileRules.{earlier, rightRises}
 use Rattle.basin.proofs.rights.right_rises.Statement.{statement}
 use Rattle.basin.proofs.rights.right_rises.Tie as tie
+
+-- a right that has one before it, by the two records as they were read
+ruled : (s : List ℕ) (i : ℕ) {x y : RightRecord} {b : Bool} → (i ≡ 0 → ⊥) → x ≡ rightRecord s (i - 1) → y ≡ rightRecord s i → b ≡ earlier x y → b ≡ rightRises s i
+unfolding rightRises
+ruled s i n ex ey eb = rw (ne-eqb i 0 n) (cc)
 
 returns : tie.Need-returns
 unfolding rightRises
@@ -22,8 +34,7 @@ is-earlier-requires : tie.Need-is-earlier-requires
 is-earlier-requires c κs = search needs
 
 returns-2 : tie.Need-returns-2
-unfolding rightRises
-returns-2 c = rw (ne-eqb _ _ (c .before .before .before .if1 .left)) (cc)
+returns-2 c = let a = c .before .before .before .before .before .args in ruled (now (a .rights)) (a .i) (c .before .before .before .if1 .left) (c .before .before .right-at .ensures) (c .before .right-at2 .ensures) (c .is-earlier .ensures)
 
 pub right-rises-spec : {M : Type 1} → statement M
 right-rises-spec =

@@ -18,6 +18,10 @@ use Rattle.basin.proofs.rights.unused_ok.Tie as tie
 abbrev good : List ℕ → ℕ → ℕ → ℕ → Bool
 good s i points k = ltb k points || (eqb (returnRow s i k) 0 and eqb (returnPercent s i k) 0)
 
+-- the pair as it was read
+ruled : (s : List ℕ) (i points k : ℕ) (a : Bool) {w q : ℕ} {z o b : Bool} → w ≡ returnRow s i k → q ≡ returnPercent s i k → z ≡ (eqb w 0 and eqb q 0) → o ≡ (ltb k points || z) → b ≡ (a and o) → b ≡ (a and good s i points k)
+ruled s i points k a ew eq ez eo eb = cc
+
 abbrev Inv-loop : tie.InvT-loop
 Inv-loop rights i points all₀ k₀ all k = (k ≤ 4) × (all ≡ allTo k (good rights i points))
 
@@ -49,7 +53,7 @@ loop-less : tie.Need-loop-less Inv-loop μ-loop
 loop-less c = search needs
 
 loop-again : tie.Need-loop-again Inv-loop μ-loop
-loop-again c = let a = c .before .before .before .before .before .before .before .before .args in (omega arith, all-more (good (now (a .rights)) (a .i) (a .points)) (c .before .before .before .before .before .before .loop .k) _ _ (c .before .before .before .before .before .before .loop .inv .1) (cc))
+loop-again c = let a = c .before .before .before .before .before .before .before .before .args in (omega arith, all-more (good (now (a .rights)) (a .i) (a .points)) (c .before .before .before .before .before .before .loop .k) _ _ (c .before .before .before .before .before .before .loop .inv .1) (ruled (now (a .rights)) (a .i) (a .points) (c .before .before .before .before .before .before .loop .k) (c .before .before .before .before .before .before .loop .all) (c .before .before .before .before .return-row .ensures) (c .before .before .before .return-percent .ensures) (c .before .before .both .ensures) (c .before .either .ensures) (c .both2 .ensures)))
 
 returns : tie.Need-returns Inv-loop μ-loop
 unfolding unusedOk
