@@ -1,8 +1,17 @@
 -- `basin::bytes::le32` meets its contract. Assumes nothing.
+use mathlib.Core.List.{List}
+use mathlib.Core.Path.{_≡_}
+use Prim.Native.Nat.{ℕ, _+_, _*_}
 use borrow.Author.Needs.{needs}
-use Rattle.basin.specs.Bytes.{le32At}
+use denote.Ref.{now}
+use Rattle.basin.specs.Bytes.{byteAt, le32At}
 use Rattle.basin.proofs.bytes.le32.Statement.{statement}
 use Rattle.basin.proofs.bytes.le32.Tie as tie
+
+-- the bytes as they were read
+read : (s : List ℕ) (i : ℕ) {a b c d : ℕ} → a ≡ byteAt s i → b ≡ byteAt s (i + 1) → c ≡ byteAt s (i + 2) → d ≡ byteAt s (i + 3) → a + b * 256 + c * 65536 + d * 16777216 ≡ le32At s i
+unfolding le32At
+read s i ea eb ec ed = cc
 
 shared-slice-read-wide32 : tie.Need-shared-slice-read-wide32
 shared-slice-read-wide32 c = search needs
@@ -56,8 +65,7 @@ add-result-3 : tie.Need-add-result-3
 add-result-3 c = search needs
 
 returns : tie.Need-returns
-unfolding le32At
-returns c = cc
+returns c = let a = c .before .before .before .before .before .before .before .before .before .args in read (now (a .s)) (a .at) (c .before .before .before .before .before .before .wide32 .ensures .0) (c .before .before .before .before .wide322 .ensures .0) (c .before .before .wide323 .ensures .0) (c .wide324 .ensures .0)
 
 pub le32-spec : {M : Type 1} → statement M
 le32-spec =

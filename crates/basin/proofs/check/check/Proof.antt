@@ -1,17 +1,24 @@
 -- `basin::check::check` meets its contract. An accepted layout has 1 to 64 stations. Assumes nothing.
 use mathlib.Core.Path.{_≡_, sym, _∙_}
 use mathlib.Core.Bool.{true}
-use Prim.Native.Nat.{_≤_, _<_}
+use mathlib.Core.List.{List}
+use Prim.Native.Nat.{ℕ, _≤_, _<_}
 use native.Mathlib.Omega.{arith}
 use borrow.Author.Tests.{not-true, not-false}
 use borrow.Author.Needs.{needs}
 use denote.Ref.{now}
+use Rattle.basin.specs.declared.Verdict.{Verdict}
 use Rattle.basin.specs.File.{layoutOk, sectionOf}
 use Rattle.basin.specs.Records.{rowsOf}
+use Rattle.basin.specs.Check.{bodiesVerdict, checkOf}
 use Rattle.basin.proofs.Parts.{laid, rows-counted}
 use Rattle.basin.proofs.Faults.{check-refuses, check-goes-on}
 use Rattle.basin.proofs.check.check.Statement.{statement}
 use Rattle.basin.proofs.check.check.Tie as tie
+
+-- the verdict on the bodies as they were cut out
+ruled : (f : List ℕ) {a b c d : List ℕ} {v : Verdict} → layoutOk f ≡ true → a ≡ sectionOf f 0 → b ≡ sectionOf f 1 → c ≡ sectionOf f 2 → d ≡ sectionOf f 3 → v ≡ bodiesVerdict a b c d → v ≡ checkOf f
+ruled f e ea eb ec ed ev = cc (check-goes-on f e)
 
 layout-ok-requires : tie.Need-layout-ok-requires
 layout-ok-requires c κs = search needs
@@ -42,7 +49,7 @@ check-bodies-requires c κs =
 returns-2 : tie.Need-returns-2
 returns-2 c =
     let f = now (c .before .before .before .before .before .before .before .before .args .file) in
-    cc (check-goes-on f (sym (c .before .before .before .before .before .before .layout-ok .ensures) ∙ not-false _ (c .before .before .before .before .before .if1 .left)))
+    ruled f (sym (c .before .before .before .before .before .before .layout-ok .ensures) ∙ not-false _ (c .before .before .before .before .before .if1 .left)) (c .before .before .before .before .section .ensures) (c .before .before .before .section2 .ensures) (c .before .before .section3 .ensures) (c .before .section4 .ensures) (c .check-bodies .ensures)
 
 pub check-spec : {M : Type 1} → statement M
 check-spec =

@@ -1,8 +1,23 @@
 -- `basin::contents::counts_ok` meets its contract. Assumes nothing.
+use mathlib.Core.Bool.{Bool}
+use mathlib.Core.List.{List}
+use mathlib.Core.Path.{_≡_}
+use Prim.Native.Nat.{ℕ}
 use borrow.Author.Needs.{needs}
-use Rattle.basin.specs.File.{countsOk}
+use denote.Ref.{now}
+use lib.Dec.{leb}
+use Rattle.general.specs.Tests.{_and_, between}
+use Rattle.basin.specs.File.{countOf, countsOk}
 use Rattle.basin.proofs.contents.counts_ok.Statement.{statement}
 use Rattle.basin.proofs.contents.counts_ok.Tie as tie
+
+-- the answers of the rules, and their conjunctions one after the other
+ruled : (f : List ℕ) {n₀ n₁ n₂ n₃ : ℕ} {a b₁ b₂ b₃ : Bool}
+    → n₀ ≡ countOf f 0 → a ≡ between 1 n₀ 64 → n₁ ≡ countOf f 1 → b₁ ≡ (a and leb n₁ 8) → n₂ ≡ countOf f 2 → b₂ ≡ (b₁ and leb n₂ 16)
+    → n₃ ≡ countOf f 3 → b₃ ≡ (b₂ and leb n₃ 256)
+    → b₃ ≡ countsOk f
+unfolding countsOk
+ruled f a₁ a₂ a₃ a₄ a₅ a₆ a₇ a₈ = cc
 
 count-requires : tie.Need-count-requires
 count-requires c κs = search needs
@@ -29,8 +44,9 @@ both-requires-3 : tie.Need-both-requires-3
 both-requires-3 c κs = search needs
 
 returns : tie.Need-returns
-unfolding countsOk
-returns c = cc
+returns c =
+    ruled (now (c .before .before .before .before .before .before .before .before .before .args .file)) (c .before .before .before .before .before .before .before .count .ensures) (c .before .before .before .before .before .before .in-range .ensures) (c .before .before .before .before .before .count2 .ensures) (c .before .before .before .before .both .ensures)
+    (c .before .before .before .count3 .ensures) (c .before .before .both2 .ensures) (c .before .count4 .ensures) (c .both3 .ensures)
 
 pub counts-ok-spec : {M : Type 1} → statement M
 counts-ok-spec =

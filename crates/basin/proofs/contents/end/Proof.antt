@@ -1,9 +1,18 @@
 -- `basin::contents::end` meets its contract. Assumes nothing.
+use mathlib.Core.List.{List}
+use mathlib.Core.Path.{_≡_}
+use Prim.Native.Nat.{ℕ, _+_, _*_}
 use native.Mathlib.Omega.{arith}
 use borrow.Author.Needs.{needs}
+use denote.Ref.{now}
+use Rattle.basin.specs.File.{widthOf, offsetOf, countOf, endOf}
 use Rattle.basin.proofs.Parts.{size-most}
 use Rattle.basin.proofs.contents.end.Statement.{statement}
 use Rattle.basin.proofs.contents.end.Tie as tie
+
+-- the table's numbers as they were read
+read : (f : List ℕ) (w : ℕ) {o n m k : ℕ} → o ≡ offsetOf f w → n ≡ countOf f w → m ≡ n → k ≡ widthOf w → o + m * k ≡ endOf f w
+read f w eo en em ek = cc
 
 offset-requires : tie.Need-offset-requires
 offset-requires c κs = search needs
@@ -24,7 +33,7 @@ add-result : tie.Need-add-result
 add-result c = omega (arith, size-most (c .before .size .result) (c .width .result) (omega arith) (omega arith))
 
 returns : tie.Need-returns
-returns c = cc
+returns c = let a = c .before .before .before .before .before .args in read (now (a .file)) (a .which) (c .before .before .before .offset .ensures .0) (c .before .before .count .ensures) (c .before .size .ensures .0) (c .width .ensures .0)
 
 pub end-spec : {M : Type 1} → statement M
 end-spec =

@@ -1,6 +1,10 @@
 -- `basin::contents::layout_ok` meets its contract. Assumes nothing.
-use mathlib.Core.Path.{sym}
+use mathlib.Core.Bool.{Bool}
+use mathlib.Core.Path.{_≡_, sym, ap, _∙_}
 use borrow.Author.Needs.{needs}
+use denote.Ref.{now}
+use Rattle.general.specs.Tests.{_and_}
+use Rattle.basin.specs.File.{countsOk}
 use Rattle.basin.proofs.Parts.{layout-short, layout-long}
 use Rattle.basin.proofs.contents.layout_ok.Statement.{statement}
 use Rattle.basin.proofs.contents.layout_ok.Tie as tie
@@ -18,7 +22,12 @@ both-requires : tie.Need-both-requires
 both-requires c κs = search needs
 
 returns-2 : tie.Need-returns-2
-returns-2 c = cc (layout-long _ (c .before .before .before .if1 .left))
+returns-2 c =
+    let f = now (c .before .before .before .before .before .args .file) in
+    c .both .ensures
+    ∙ ap (λ (x : Bool). x and c .before .is-packed .result) (c .before .before .counts-ok .ensures)
+    ∙ ap (λ (x : Bool). countsOk f and x) (c .before .is-packed .ensures)
+    ∙ sym (layout-long f (c .before .before .before .if1 .left))
 
 pub layout-ok-spec : {M : Type 1} → statement M
 layout-ok-spec =

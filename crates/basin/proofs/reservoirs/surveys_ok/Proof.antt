@@ -1,8 +1,21 @@
 -- `basin::reservoirs::surveys_ok` meets its contract. Assumes nothing.
+use mathlib.Core.Bool.{Bool}
+use mathlib.Core.List.{List}
+use mathlib.Core.Path.{_≡_}
+use Prim.Native.Nat.{ℕ}
 use borrow.Author.Needs.{needs}
-use Rattle.basin.specs.FileRules.{surveysOk}
+use denote.Ref.{now}
+use lib.Dec.{eqb}
+use Rattle.general.specs.Tests.{_and_}
+use Rattle.basin.specs.Records.{contentAt}
+use Rattle.basin.specs.FileRules.{contentsRise, areasOk, surveysOk}
 use Rattle.basin.proofs.reservoirs.surveys_ok.Statement.{statement}
 use Rattle.basin.proofs.reservoirs.surveys_ok.Tie as tie
+
+-- the answers of the rules, and their conjunctions one after the other
+ruled : (s : List ℕ) (v : ℕ) {x : ℕ} {p q b₁ b₂ : Bool} → x ≡ contentAt s v 0 → p ≡ contentsRise s v → b₁ ≡ (eqb x 0 and p) → q ≡ areasOk s v → b₂ ≡ (b₁ and q) → b₂ ≡ surveysOk s v
+unfolding surveysOk
+ruled s v e₁ e₂ e₃ e₄ e₅ = cc
 
 content-at-requires : tie.Need-content-at-requires
 content-at-requires c κs = search needs
@@ -20,8 +33,9 @@ both-requires-2 : tie.Need-both-requires-2
 both-requires-2 c κs = search needs
 
 returns : tie.Need-returns
-unfolding surveysOk
-returns c = cc
+returns c =
+    let a = c .before .before .before .before .before .before .args in
+    ruled (now (a .reservoirs)) (a .v) (c .before .before .before .before .content-at .ensures) (c .before .before .before .contents-rise .ensures) (c .before .before .both .ensures) (c .before .areas-ok .ensures) (c .both2 .ensures)
 
 pub surveys-ok-spec : {M : Type 1} → statement M
 surveys-ok-spec =

@@ -1,8 +1,31 @@
 -- `basin::rights::right_at` meets its contract. Assumes nothing.
+use mathlib.Core.List.{List}
+use mathlib.Core.Path.{_≡_}
+use Prim.Native.Nat.{ℕ, _+_, _*_}
 use borrow.Author.Needs.{needs}
+use denote.Ref.{now}
+use Rattle.basin.specs.declared.rights.RightRecord.{RightRecord}
+use Rattle.basin.specs.Bytes.{byteAt, le16At, le32At}
 use Rattle.basin.specs.Records.{rightRecord}
 use Rattle.basin.proofs.rights.right_at.Statement.{statement}
 use Rattle.basin.proofs.rights.right_at.Tie as tie
+
+-- the numbers of several bytes as they were read
+read : (s : List ℕ) (i : ℕ) {p d m l : ℕ} → p ≡ le32At s (76 * i) → d ≡ le32At s (76 * i + 4) → m ≡ le16At s (76 * i + 14) → l ≡ le32At s (76 * i + 16)
+    → _≡_ {A = RightRecord} (record {
+      permit = p;
+      date = d;
+      kind = byteAt s (76 * i + 8);
+      row = byteAt s (76 * i + 9);
+      reservoir = byteAt s (76 * i + 10);
+      efficiency = byteAt s (76 * i + 11);
+      pattern = byteAt s (76 * i + 12);
+      points = byteAt s (76 * i + 13);
+      months = m;
+      limit = l;
+    }) (rightRecord s i)
+unfolding rightRecord
+read s i ep ed em el = cc
 
 mul-at : tie.Need-mul-at
 mul-at c = search needs
@@ -65,8 +88,7 @@ le32-requires-3 : tie.Need-le32-requires-3
 le32-requires-3 c κs = search needs
 
 returns : tie.Need-returns
-unfolding rightRecord
-returns c = cc
+returns c = let a = c .before .before .before .before .before .before .before .before .before .before .before .args in read (now (a .rights)) (a .i) (c .before .before .before .before .before .before .before .before .before .le32 .ensures) (c .before .before .before .before .before .before .before .before .le322 .ensures) (c .before .le16 .ensures) (c .le323 .ensures)
 
 pub right-at-spec : {M : Type 1} → statement M
 right-at-spec =
