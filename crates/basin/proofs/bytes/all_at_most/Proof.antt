@@ -7,7 +7,7 @@ use native.Mathlib.Omega.{arith}
 use borrow.Author.Needs.{needs}
 use denote.Ref.{now}
 use lib.Dec.{leb}
-use Rattle.general.specs.Tests.{allTo}
+use Rattle.general.specs.Tests.{_and_, allTo}
 use Rattle.general.proofs.Loops.{all-none, all-more}
 use Rattle.basin.specs.Bytes.{le32At, allAtMost}
 use Rattle.basin.proofs.Parts.{step-within}
@@ -17,6 +17,10 @@ use Rattle.basin.proofs.bytes.all_at_most.Tie as tie
 -- number k is at most the limit
 abbrev small : List ℕ → ℕ → ℕ → ℕ → ℕ → Bool
 small s at step most k = leb (le32At s (at + step * k)) most
+
+-- the number as it was read
+ruled : (s : List ℕ) (at step most k : ℕ) (a : Bool) {x : ℕ} {b : Bool} → x ≡ le32At s (at + step * k) → b ≡ (a and leb x most) → b ≡ (a and small s at step most k)
+ruled s at step most k a ex eb = cc
 
 abbrev Inv-loop : tie.InvT-loop
 Inv-loop s at step n most all₀ k₀ all k = (k ≤ n) × (all ≡ allTo k (small s at step most))
@@ -46,7 +50,7 @@ loop-less : tie.Need-loop-less Inv-loop μ-loop
 loop-less c = search needs
 
 loop-again : tie.Need-loop-again Inv-loop μ-loop
-loop-again c = let a = c .before .before .before .before .before .args in (omega arith, all-more (small (now (a .s)) (a .at) (a .step) (a .most)) (c .before .before .before .loop .k) _ _ (c .before .before .before .loop .inv .1) (cc))
+loop-again c = let a = c .before .before .before .before .before .args in (omega arith, all-more (small (now (a .s)) (a .at) (a .step) (a .most)) (c .before .before .before .loop .k) _ _ (c .before .before .before .loop .inv .1) (ruled (now (a .s)) (a .at) (a .step) (a .most) (c .before .before .before .loop .k) (c .before .before .before .loop .all) (c .before .le32 .ensures) (c .both .ensures)))
 
 returns : tie.Need-returns Inv-loop μ-loop
 unfolding allAtMost

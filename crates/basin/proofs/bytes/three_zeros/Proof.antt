@@ -1,8 +1,20 @@
 -- `basin::bytes::three_zeros` meets its contract. Assumes nothing.
+use mathlib.Core.Bool.{Bool}
+use mathlib.Core.List.{List}
+use mathlib.Core.Path.{_≡_}
+use Prim.Native.Nat.{ℕ, _+_}
 use borrow.Author.Needs.{needs}
-use Rattle.basin.specs.Bytes.{threeZeros}
+use denote.Ref.{now}
+use lib.Dec.{eqb}
+use Rattle.general.specs.Tests.{_and_}
+use Rattle.basin.specs.Bytes.{byteAt, threeZeros}
 use Rattle.basin.proofs.bytes.three_zeros.Statement.{statement}
 use Rattle.basin.proofs.bytes.three_zeros.Tie as tie
+
+-- the tests joined one after the other
+ruled : (s : List ℕ) (i : ℕ) {b₁ b₂ : Bool} → b₁ ≡ (eqb (byteAt s i) 0 and eqb (byteAt s (i + 1)) 0) → b₂ ≡ (b₁ and eqb (byteAt s (i + 2)) 0) → b₂ ≡ threeZeros s i
+unfolding threeZeros
+ruled s i e₁ e₂ = cc
 
 shared-slice-read-both : tie.Need-shared-slice-read-both
 shared-slice-read-both c = search needs
@@ -26,8 +38,7 @@ both-requires-2 : tie.Need-both-requires-2
 both-requires-2 c κs = search needs
 
 returns : tie.Need-returns
-unfolding threeZeros
-returns c = cc
+returns c = let a = c .before .before .before .before .before .before .args in ruled (now (a .s)) (a .at) (c .before .before .both .ensures) (c .both2 .ensures)
 
 pub three-zeros-spec : {M : Type 1} → statement M
 three-zeros-spec =

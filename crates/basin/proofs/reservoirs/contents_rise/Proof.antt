@@ -7,7 +7,7 @@ use native.Mathlib.Omega.{arith}
 use borrow.Author.Needs.{needs}
 use denote.Ref.{now}
 use lib.Dec.{ltb}
-use Rattle.general.specs.Tests.{allTo}
+use Rattle.general.specs.Tests.{_and_, allTo}
 use Rattle.general.proofs.Loops.{all-none, all-more}
 use Rattle.basin.specs.Records.{contentAt}
 use Rattle.basin.specs.FileRules.{contentsRise}
@@ -17,6 +17,10 @@ use Rattle.basin.proofs.reservoirs.contents_rise.Tie as tie
 -- pair k holds less than the next
 abbrev rises : List ℕ → ℕ → ℕ → Bool
 rises s v k = ltb (contentAt s v k) (contentAt s v (k + 1))
+
+-- the two numbers as they were read
+ruled : (s : List ℕ) (v k : ℕ) (a : Bool) {x y : ℕ} {b : Bool} → x ≡ contentAt s v k → y ≡ contentAt s v (k + 1) → b ≡ (a and ltb x y) → b ≡ (a and rises s v k)
+ruled s v k a ex ey eb = cc
 
 abbrev Inv-loop : tie.InvT-loop
 Inv-loop reservoirs v all₀ k₀ all k = (k ≤ 3) × (all ≡ allTo k (rises reservoirs v))
@@ -46,7 +50,7 @@ loop-less : tie.Need-loop-less Inv-loop μ-loop
 loop-less c = search needs
 
 loop-again : tie.Need-loop-again Inv-loop μ-loop
-loop-again c = let a = c .before .before .before .before .before .before .args in (omega arith, all-more (rises (now (a .reservoirs)) (a .v)) (c .before .before .before .before .loop .k) _ _ (c .before .before .before .before .loop .inv .1) (cc))
+loop-again c = let a = c .before .before .before .before .before .before .args in (omega arith, all-more (rises (now (a .reservoirs)) (a .v)) (c .before .before .before .before .loop .k) _ _ (c .before .before .before .before .loop .inv .1) (ruled (now (a .reservoirs)) (a .v) (c .before .before .before .before .loop .k) (c .before .before .before .before .loop .all) (c .before .before .content-at .ensures) (c .before .content-at2 .ensures) (c .both .ensures)))
 
 returns : tie.Need-returns Inv-loop μ-loop
 unfolding contentsRise

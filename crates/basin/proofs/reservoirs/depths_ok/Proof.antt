@@ -7,7 +7,7 @@ use native.Mathlib.Omega.{arith}
 use borrow.Author.Needs.{needs}
 use denote.Ref.{now}
 use lib.Dec.{leb}
-use Rattle.general.specs.Tests.{allTo}
+use Rattle.general.specs.Tests.{_and_, allTo}
 use Rattle.general.proofs.Loops.{all-none, all-more}
 use Rattle.basin.specs.Records.{depthAt}
 use Rattle.basin.specs.FileRules.{depthsOk}
@@ -16,6 +16,10 @@ use Rattle.basin.proofs.reservoirs.depths_ok.Tie as tie
 
 abbrev small : List ℕ → ℕ → ℕ → Bool
 small s v m = leb (depthAt s v m) 1000
+
+-- the depth as it was read
+ruled : (s : List ℕ) (v m : ℕ) (a : Bool) {x : ℕ} {b : Bool} → x ≡ depthAt s v m → b ≡ (a and leb x 1000) → b ≡ (a and small s v m)
+ruled s v m a ex eb = cc
 
 abbrev Inv-loop : tie.InvT-loop
 Inv-loop reservoirs v all₀ m₀ all m = (m ≤ 12) × (all ≡ allTo m (small reservoirs v))
@@ -39,7 +43,7 @@ loop-less : tie.Need-loop-less Inv-loop μ-loop
 loop-less c = search needs
 
 loop-again : tie.Need-loop-again Inv-loop μ-loop
-loop-again c = let a = c .before .before .before .before .before .args in (omega arith, all-more (small (now (a .reservoirs)) (a .v)) (c .before .before .before .loop .m) _ _ (c .before .before .before .loop .inv .1) (cc))
+loop-again c = let a = c .before .before .before .before .before .args in (omega arith, all-more (small (now (a .reservoirs)) (a .v)) (c .before .before .before .loop .m) _ _ (c .before .before .before .loop .inv .1) (ruled (now (a .reservoirs)) (a .v) (c .before .before .before .loop .m) (c .before .before .before .loop .all) (c .before .depth-at .ensures) (c .both .ensures)))
 
 returns : tie.Need-returns Inv-loop μ-loop
 unfolding depthsOk
