@@ -1,11 +1,12 @@
 -- `ledger::possible::dues_ok` meets its contract. The loop's invariant: all rows passed are possible. Assumes nothing.
+use mathlib.Core.Bool.{Bool}
 use mathlib.Core.Path.{_≡_, ap, _∙_}
 use Prim.Native.Nat.{ℕ, _-_, _≤_}
 use native.Mathlib.Omega.{arith}
 use borrow.Author.Needs.{needs}
 use denote.Ref.{now}
 use Rattle.general.proofs.Loops.{all-none, all-more}
-use Rattle.general.specs.Tests.{allTo}
+use Rattle.general.specs.Tests.{_and_, allTo}
 use Rattle.ledger.specs.Bodies.{rowOk, duesOk}
 use Rattle.ledger.proofs.possible.dues_ok.Statement.{statement}
 use Rattle.ledger.proofs.possible.dues_ok.Tie as tie
@@ -32,7 +33,7 @@ loop-less : tie.Need-loop-less Inv-loop μ-loop
 loop-less c = search needs
 
 loop-again : tie.Need-loop-again Inv-loop μ-loop
-loop-again c = (omega arith, all-more (rowOk (c .before .before .before .before .before .args .n) (now (c .before .before .before .before .before .args .board))) (c .before .before .before .loop .w) _ _ (c .before .before .before .loop .inv .1) (cc))
+loop-again c = (omega arith, all-more (rowOk (c .before .before .before .before .before .args .n) (now (c .before .before .before .before .before .args .board))) (c .before .before .before .loop .w) _ _ (c .before .before .before .loop .inv .1) (c .both .ensures ∙ ap (λ (x : Bool). c .before .before .before .loop .all and x) (c .before .row-ok .ensures)))
 
 returns : tie.Need-returns Inv-loop μ-loop
 unfolding duesOk

@@ -2,13 +2,14 @@
 use mathlib.Core.Path.{_≡_, ap, _∙_}
 use mathlib.Core.Bool.{Bool}
 use mathlib.Core.List.{List}
-use Prim.Native.Nat.{ℕ, suc, _-_, _≤_}
+use Prim.Native.Nat.{ℕ, suc, _+_, _-_, _*_, _≤_}
 use native.Mathlib.Omega.{arith}
 use borrow.Author.Needs.{needs}
 use denote.Ref.{now}
 use lib.Dec.{leb}
+use lib.ListN.{getD}
 use Rattle.general.proofs.Loops.{all-none, all-more}
-use Rattle.general.specs.Tests.{allTo}
+use Rattle.general.specs.Tests.{_and_, allTo}
 use Rattle.ledger.specs.Board.{dueAt}
 use Rattle.ledger.specs.Bodies.{dueMost, rowOk}
 use Rattle.ledger.proofs.Bodies.{due-read}
@@ -18,6 +19,10 @@ use Rattle.ledger.proofs.possible.row_ok.Tie as tie
 -- what is due at k is within what the past months can send
 abbrev low : ℕ → List ℕ → ℕ → ℕ → Bool
 low n board w k = leb (dueAt board w (suc k)) (dueMost n w k)
+
+-- the due as it was read
+ruled : (n : ℕ) (board : List ℕ) (w k : ℕ) (a : Bool) {m : ℕ} {b : Bool} → m ≡ dueMost n w k → b ≡ (a and leb (getD board (266 + 11 * w + k) 0) m) → b ≡ (a and low n board w k)
+ruled n board w k a em eb = cc (due-read board w k)
 
 abbrev Inv-loop : tie.InvT-loop
 Inv-loop n board w all₀ k₀ all k = (k ≤ 11) × (all ≡ allTo k (low n board w))
@@ -56,7 +61,7 @@ loop-less : tie.Need-loop-less Inv-loop μ-loop
 loop-less c = search needs
 
 loop-again : tie.Need-loop-again Inv-loop μ-loop
-loop-again c = (omega arith, all-more (low (c .before .before .before .before .before .before .args .n) (now (c .before .before .before .before .before .before .args .board)) (c .before .before .before .before .before .before .args .w)) (c .before .before .before .before .loop .k) _ _ (c .before .before .before .before .loop .inv .1) (cc (due-read (now (c .before .before .before .before .before .before .args .board)) (c .before .before .before .before .before .before .args .w) (c .before .before .before .before .loop .k))))
+loop-again c = (omega arith, all-more (low (c .before .before .before .before .before .before .args .n) (now (c .before .before .before .before .before .before .args .board)) (c .before .before .before .before .before .before .args .w)) (c .before .before .before .before .loop .k) _ _ (c .before .before .before .before .loop .inv .1) (ruled (c .before .before .before .before .before .before .args .n) (now (c .before .before .before .before .before .before .args .board)) (c .before .before .before .before .before .before .args .w) (c .before .before .before .before .loop .k) (c .before .before .before .before .loop .all) (c .before .due-most .ensures) (c .both .ensures)))
 
 returns : tie.Need-returns Inv-loop μ-loop
 unfolding rowOk

@@ -8,7 +8,7 @@ use borrow.Author.Needs.{needs}
 use denote.Ref.{now}
 use lib.Dec.{leb}
 use Rattle.general.proofs.Loops.{all-none, all-more}
-use Rattle.general.specs.Tests.{allTo}
+use Rattle.general.specs.Tests.{_and_, allTo}
 use Rattle.ledger.specs.Board.{storageAt}
 use Rattle.ledger.specs.Bodies.{storageMost, storagesOk}
 use Rattle.ledger.proofs.possible.storages_ok.Statement.{statement}
@@ -17,6 +17,10 @@ use Rattle.ledger.proofs.possible.storages_ok.Tie as tie
 -- storage v is within its reservoir
 abbrev low : List ℕ → List ℕ → ℕ → Bool
 low rs board v = leb (storageAt board v) (storageMost rs v)
+
+-- the number as it was read
+ruled : (rs board : List ℕ) (v : ℕ) (a : Bool) {m : ℕ} {b : Bool} → m ≡ storageMost rs v → b ≡ (a and leb (storageAt board v) m) → b ≡ (a and low rs board v)
+ruled rs board v a em eb = cc
 
 abbrev Inv-loop : tie.InvT-loop
 Inv-loop reservoirs board all₀ v₀ all v = (v ≤ 8) × (all ≡ allTo v (low reservoirs board))
@@ -49,7 +53,7 @@ loop-less : tie.Need-loop-less Inv-loop μ-loop
 loop-less c = search needs
 
 loop-again : tie.Need-loop-again Inv-loop μ-loop
-loop-again c = (omega arith, all-more (low (now (c .before .before .before .before .before .before .before .args .reservoirs)) (now (c .before .before .before .before .before .before .before .args .board))) (c .before .before .before .before .loop .v) _ _ (c .before .before .before .before .loop .inv .1) (cc))
+loop-again c = (omega arith, all-more (low (now (c .before .before .before .before .before .before .before .args .reservoirs)) (now (c .before .before .before .before .before .before .before .args .board))) (c .before .before .before .before .loop .v) _ _ (c .before .before .before .before .loop .inv .1) (ruled (now (c .before .before .before .before .before .before .before .args .reservoirs)) (now (c .before .before .before .before .before .before .before .args .board)) (c .before .before .before .before .loop .v) (c .before .before .before .before .loop .all) (c .before .storage-most .ensures) (c .both .ensures)))
 
 returns : tie.Need-returns Inv-loop μ-loop
 unfolding storagesOk
