@@ -18,17 +18,18 @@ use Rattle.rules.specs.Basin.{Survey, Reservoir, Point, direct, project, instre
 use Rattle.rules.specs.Path.{rowBelow, path}
 use Rattle.rules.specs.Accepted.{Connected, GoodReservoir, ReservoirOk, Unreturned, Returned, ReturnsOk, GoodRight, Accepted as Acceptable}
 use Rattle.basin.specs.declared.Verdict.the-variants.{Accepted, Layout}
-use Rattle.basin.specs.declared.rights.RightRecord.{RightRecord}
-use Rattle.basin.specs.File.{layoutOk, sectionOf}
-use Rattle.basin.specs.Records.{rowsOf, stationsOf, reservoirCount, reservoirRecord, depthAt, reservoirOf, reservoirsOf, patternCount, patternOf, percentAt, patternsOf, rightCount, rightRecord, amountAt, returnRow, returnPercent, kindOf, rightOf, rightsOf, basinOf}
-use Rattle.basin.specs.FileRules.{wayDown, stationOk, areasOk, depthsOk, surveysOk, reservoirPlain, reservoirOk, patternOk, limitOk, headingOk, sourceOk, pointOk, eachPointOk, pointsOk, returnsOk, amountsOk, rightOk}
+use Rattle.records.specs.declared.rights.RightRecord.{RightRecord}
+use Rattle.layout.specs.File.{layoutOk, sectionOf}
+use Rattle.records.specs.Records.{rowsOf, stationsOf, reservoirCount, reservoirRecord, depthAt, reservoirOf, reservoirsOf, patternCount, patternOf, percentAt, patternsOf, rightCount, rightRecord, amountAt, returnRow, returnPercent, kindOf, rightOf, rightsOf, basinOf}
+use Rattle.filerules.specs.FileRules.{wayDown, stationOk, areasOk, depthsOk, surveysOk, reservoirPlain, reservoirOk, patternOk, limitOk, headingOk, sourceOk, pointOk, eachPointOk, pointsOk, returnsOk, amountsOk, rightOk}
 use Rattle.basin.specs.Check.{bodiesVerdict, checkOf}
 use Rattle.basin.specs.Theorems.{AcceptedFacts}
-use Rattle.basin.proofs.Parts.{laid, rows-counted, reservoirs-counted, patterns-counted, rights-counted}
-use Rattle.basin.proofs.Decoded.{reservoirs-are, reservoir-is, patterns-are, pattern-is, rights-are}
-use Rattle.basin.proofs.Rows.{rows-are}
+use Rattle.layout.proofs.Parts.{laid}
+use Rattle.records.proofs.Counted.{rows-counted, reservoirs-counted, patterns-counted, rights-counted}
+use Rattle.records.proofs.Decoded.{reservoirs-are, reservoir-is, patterns-are, pattern-is, rights-are}
+use Rattle.records.proofs.Rows.{rows-are}
 use Rattle.basin.proofs.Faults.{check-refuses, check-goes-on, stations-clear, reservoirs-clear, patterns-clear, rights-clear}
-use Rattle.basin.proofs.Cases.{source-in, source-stored, source-path, returns-nothing, all-consumed, returns-shared, few-points}
+use Rattle.filerules.proofs.Cases.{source-in, source-stored, source-path, returns-nothing, all-consumed, returns-shared, few-points}
 
 -- ---- each record of an accepted file keeps its rules
 

@@ -16,10 +16,12 @@ use types.Run.{OneOf}
 use Rattle.basin.specs.declared.Verdict.{Verdict}
 use Rattle.basin.specs.declared.Verdict.the-variants.{Accepted, Layout, Station, Reservoir, Pattern, Right}
 use Rattle.basin.proofs.Verdict.{the-type}
-use Rattle.basin.specs.File.{layoutOk, sectionOf}
-use Rattle.basin.specs.Records.{rowsOf, reservoirCount, reservoirRecord, patternCount, rightCount}
-use Rattle.basin.specs.FileRules.{stationOk, reservoirPlain, reservoirOk, GoodRows, patternOk, rightOk}
-use Rattle.basin.proofs.Parts.{laid, rows-counted, reservoirs-counted, patterns-counted, rights-counted}
+use Rattle.layout.specs.File.{layoutOk, sectionOf}
+use Rattle.records.specs.Records.{rowsOf, reservoirCount, reservoirRecord, patternCount, rightCount}
+use Rattle.filerules.specs.FileRules.{stationOk, reservoirPlain, reservoirOk, patternOk, rightOk}
+use Rattle.records.specs.Table.{GoodRows}
+use Rattle.layout.proofs.Parts.{laid}
+use Rattle.records.proofs.Counted.{rows-counted, reservoirs-counted, patterns-counted, rights-counted}
 use Rattle.basin.specs.Check.{placeOf, onlyIf, faultOr, stationsVerdict, reservoirsVerdict, patternsVerdict, rightsVerdict, bodiesVerdict, checkOf}
 
 -- the verdict on the records i, i + 1, .., n − 1 of a body

@@ -5,10 +5,10 @@ use Rattle.general.specs.Tables.{tab}
 use Rattle.general.specs.Tests.{_and_, between, has, firstAt, firstFault, allTo}
 use Rattle.general.specs.Routes.{follow}
 use Rattle.rules.specs.Path.{carriesOn, rowBelow, path}
-use Rattle.basin.specs.Bytes.{le16At, le32At, threeZeros}
-use Rattle.basin.specs.File.{widthOf, offsetOf, countOf, countsOk, packed, layoutOk, sectionOf}
-use Rattle.basin.specs.Records.{stationRecord, stationOf, stationsOf, reservoirRecord, contentAt, areaAt, depthAt, reservoirOf, reservoirsOf, percentAt, patternOf, patternsOf, rightRecord, amountAt, returnRow, returnPercent, kindOf, rightOf, rightsOf, basinOf}
-use Rattle.basin.specs.FileRules.{numberRises, wayDown, stationPlain, stationOk, contentsRise, areasOk, depthsOk, surveysOk, reservoirPlain, reservoirOk, patternOk, dateOk, limitOk, headingOk, sourceOk, pointOk, eachPointOk, pointsOk, returnsOk, unusedOk, amountsOk, earlier, rightRises, rightOk}
+use Rattle.layout.specs.Bytes.{le16At, le32At, threeZeros}
+use Rattle.layout.specs.File.{widthOf, offsetOf, countOf, countsOk, packed, layoutOk, sectionOf}
+use Rattle.records.specs.Records.{stationRecord, stationOf, stationsOf, reservoirRecord, contentAt, areaAt, depthAt, reservoirOf, reservoirsOf, percentAt, patternOf, patternsOf, rightRecord, amountAt, returnRow, returnPercent, kindOf, rightOf, rightsOf, basinOf}
+use Rattle.filerules.specs.FileRules.{numberRises, wayDown, stationPlain, stationOk, contentsRise, areasOk, depthsOk, surveysOk, reservoirPlain, reservoirOk, patternOk, dateOk, limitOk, headingOk, sourceOk, pointOk, eachPointOk, pointsOk, returnsOk, unusedOk, amountsOk, earlier, rightRises, rightOk}
 use Rattle.basin.specs.Check.{faultOr, stationsVerdict, reservoirsVerdict, patternsVerdict, rightsVerdict, bodiesVerdict, checkOf}
 use Rattle.basin.specs.October.{octoberFile, OctoberChecked}
 

@@ -6,9 +6,9 @@ use Prim.Native.Nat.{ℕ}
 use Rattle.general.specs.Tests.{firstFault}
 use Rattle.basin.specs.declared.Verdict.{Verdict}
 use Rattle.basin.specs.declared.Verdict.the-variants.{Accepted, Layout, Station, Reservoir, Pattern, Right}
-use Rattle.basin.specs.File.{layoutOk, sectionOf}
-use Rattle.basin.specs.Records.{rowsOf, reservoirCount, patternCount, rightCount}
-use Rattle.basin.specs.FileRules.{stationOk, reservoirOk, patternOk, rightOk}
+use Rattle.layout.specs.File.{layoutOk, sectionOf}
+use Rattle.records.specs.Records.{rowsOf, reservoirCount, patternCount, rightCount}
+use Rattle.filerules.specs.FileRules.{stationOk, reservoirOk, patternOk, rightOk}
 
 -- 01's number and place for each verdict
 abbrev pub numberOf : Verdict → ℕ

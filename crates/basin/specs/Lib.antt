@@ -1,9 +1,3 @@
-pub mod Bytes
-pub mod File
-pub mod Records
-pub mod Network
-pub mod Table
-pub mod FileRules
 pub mod Check
 pub mod October
 pub mod Theorems

@@ -5,7 +5,7 @@ use Prim.Native.Nat.{ℕ, _/_, _%_}
 use lib.ListN.{set, replicate, take}
 use Rattle.rules.specs.October.{october}
 use Rattle.basin.specs.declared.Verdict.the-variants.{Accepted, Layout, Station, Reservoir, Pattern, Right}
-use Rattle.basin.specs.Records.{basinOf}
+use Rattle.records.specs.Records.{basinOf}
 use Rattle.basin.specs.Check.{checkOf}
 
 -- a number in two and in four bytes, the least significant first

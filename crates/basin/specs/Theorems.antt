@@ -4,7 +4,7 @@ use mathlib.Core.List.{List}
 use Prim.Native.Nat.{ℕ}
 use Rattle.rules.specs.Accepted.{Accepted as Acceptable}
 use Rattle.basin.specs.declared.Verdict.the-variants.{Accepted}
-use Rattle.basin.specs.Records.{basinOf}
+use Rattle.records.specs.Records.{basinOf}
 use Rattle.basin.specs.Check.{checkOf}
 
 -- A file that the check accepts, whatever its bytes, describes a basin that has all that the rules of a month need.

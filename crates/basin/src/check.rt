@@ -1,19 +1,19 @@
 // The check of a whole file: its layout, then its bodies in order. It takes any bytes, and every answer is a verdict.
 ghost use mathlib.Core.Path.{_≡_};
 ghost use Prim.Native.Nat.{_≤_, _<_};
-ghost use Rattle.basin.specs.Records.{rowsOf};
+ghost use Rattle.records.specs.Records.{rowsOf};
 ghost use Rattle.basin.specs.Check.{numberOf, placeOf, bodiesVerdict, checkOf};
 use crate::Verdict;
-use crate::contents::PATTERNS;
-use crate::contents::RESERVOIRS;
-use crate::contents::RIGHTS;
-use crate::contents::STATIONS;
-use crate::contents::layout_ok;
-use crate::contents::section;
 use crate::patterns::check_patterns;
 use crate::reservoirs::check_reservoirs;
 use crate::rights::check_rights;
 use crate::stations::check_stations;
+use layout::contents::PATTERNS;
+use layout::contents::RESERVOIRS;
+use layout::contents::RIGHTS;
+use layout::contents::STATIONS;
+use layout::contents::layout_ok;
+use layout::contents::section;
 
 // Stations come first, so that the rows that later bodies name are known to be good.
 fn check_bodies(stations: &[u8], reservoirs: &[u8], patterns: &[u8], rights: &[u8]) -> Verdict

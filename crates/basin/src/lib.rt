@@ -1,10 +1,6 @@
-// The basin file: its layout, its records, its rules, and the check that accepts or refuses it (document 01).
-pub mod bytes;
+// The check that accepts or refuses a basin file (document 01).
 pub mod check;
-pub mod conditions;
-pub mod contents;
 pub mod export;
-pub mod network;
 pub mod patterns;
 pub mod reservoirs;
 pub mod rights;

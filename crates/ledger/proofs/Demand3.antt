@@ -27,15 +27,15 @@ use Rattle.rules.proofs.Bounds.{fresh-possible, call-possible}
 use Rattle.rules.proofs.Theorems.{water}
 use Rattle.basin.specs.declared.Verdict.{Verdict}
 use Rattle.basin.specs.declared.Verdict.the-variants.{Accepted as AcceptedFile}
-use Rattle.basin.specs.Records.{basinOf}
+use Rattle.records.specs.Records.{basinOf}
 use Rattle.basin.specs.Check.{checkOf}
-use Rattle.ledger.specs.Board.{dueAt, carriedOf, possible}
-use Rattle.ledger.specs.Report.{noGrant, grantAt, rowsFrom, reservoirsFrom, reportOf, nameIn}
-use Rattle.ledger.specs.Calls.{verdictRefusal, fileRefusal, orElse, unless, boardFits, listsFit, freshRefusal, monthRefusal, freshBoard, freshSettled, freshOf, runOf, boardAfter, Outcome, monthSettled, monthOf, NamesAllowed, MonthMeets}
+use Rattle.boards.specs.Board.{dueAt, carriedOf, possible}
+use Rattle.boards.specs.Report.{noGrant, grantAt, rowsFrom, reservoirsFrom, reportOf, nameIn}
+use Rattle.boards.specs.Calls.{verdictRefusal, fileRefusal, orElse, unless, boardFits, listsFit, freshRefusal, monthRefusal, freshBoard, freshSettled, freshOf, runOf, boardAfter, Outcome, monthSettled, monthOf, NamesAllowed, MonthMeets}
 use Rattle.ledger.specs.Demand3.{Event, callOf, Run, Tells, ReportOk, tallyBoard, Follows, AllFollow, Demand3}
-use Rattle.ledger.proofs.Board.{board-length}
+use Rattle.boards.proofs.Board.{board-length}
 use Rattle.ledger.proofs.Tally.{tally-possible, tally-run, tally-next, tally-fresh}
-use Rattle.ledger.proofs.Report.{own-number, river-place, storage-place, reason-place, name-place, flow-place, available-place, evaporation-place, places-beyond, report-same}
+use Rattle.monthrun.proofs.Report.{own-number, river-place, storage-place, reason-place, name-place, flow-place, available-place, evaporation-place, places-beyond, report-same}
 use Rattle.rules.specs.Tally as tally
 
 -- ---- refusals: on the tally's board a month is refused just where the tally refuses it

@@ -1,16 +1,3 @@
-pub mod Board
-pub mod Bounds
-pub mod Report
 pub mod Tally
 pub mod Demand3
-pub mod Bodies
-pub mod Answers
-pub mod Opened
-pub mod Closing
-pub mod Reporting
-pub mod After
-pub mod Running
-pub mod Settling
-pub mod Going
-pub mod Rows
 pub mod Theorems

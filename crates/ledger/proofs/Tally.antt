@@ -21,11 +21,11 @@ use Rattle.rules.specs.Accepted.{Accepted}
 use Rattle.rules.specs.Theorems.{mostDue, Possible}
 use Rattle.rules.proofs.Bounds.{capped-of}
 use Rattle.rules.proofs.Pending.{pending-on, pending-ends}
-use Rattle.ledger.specs.Board.{monthAt, storageAt, marksAt, takenAt, dueAt, carriedOf, boardOf, possible}
-use Rattle.ledger.specs.Calls.{orElse, unless, boardFits, listsFit, freshBoard, runOf, dueAfter, boardAfter}
+use Rattle.boards.specs.Board.{monthAt, storageAt, marksAt, takenAt, dueAt, carriedOf, boardOf, possible}
+use Rattle.boards.specs.Calls.{orElse, unless, boardFits, listsFit, freshBoard, runOf, dueAfter, boardAfter}
 use Rattle.ledger.specs.Demand3.{tallyBoard}
-use Rattle.ledger.proofs.Bounds.{board-possible}
-use Rattle.ledger.proofs.Board.{Counted, board-length, month-place, storage-place, marks-place, taken-place, due-place, due-of-row, word-less, read-back, board-same}
+use Rattle.boards.proofs.Bounds.{board-possible}
+use Rattle.boards.proofs.Board.{Counted, board-length, month-place, storage-place, marks-place, taken-place, due-place, due-of-row, word-less, read-back, board-same}
 
 written : (b : Basin) (t : Tally) → boardOf b (t .carried) (pending b (t .months)) ≡ tallyBoard b t
 unfolding tallyBoard

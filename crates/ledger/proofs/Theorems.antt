@@ -2,7 +2,7 @@
 use Rattle.basin.proofs.Accepted.{accepted-facts}
 use Rattle.ledger.specs.Demand3.{Claim, NotEmpty}
 use Rattle.ledger.proofs.Demand3.{demand, run-exists}
-use Rattle.ledger.specs.Calls.{freshOf}
+use Rattle.boards.specs.Calls.{freshOf}
 
 pub claim : Claim
 claim f board e n es r = demand f e (accepted-facts f e) board n es r

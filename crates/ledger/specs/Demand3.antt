@@ -14,11 +14,11 @@ use Rattle.rules.specs.Month.{MonthRun, reasonNumber}
 use Rattle.rules.specs.Tally.{Call, Answer, reportLength, refusal, Tally, fresh, pending, nextRun, afterCall, afterCalls, answerOf}
 use Rattle.rules.specs.Water.{WaterKept}
 use Rattle.basin.specs.declared.Verdict.the-variants.{Accepted}
-use Rattle.basin.specs.Records.{basinOf}
+use Rattle.records.specs.Records.{basinOf}
 use Rattle.basin.specs.Check.{checkOf}
-use Rattle.ledger.specs.Board.{boardOf}
-use Rattle.ledger.specs.Report.{grantAt, rowsFrom, reservoirsFrom, nameIn}
-use Rattle.ledger.specs.Calls.{freshOf, Outcome, MonthMeets}
+use Rattle.boards.specs.Board.{boardOf}
+use Rattle.boards.specs.Report.{grantAt, rowsFrom, reservoirsFrom, nameIn}
+use Rattle.boards.specs.Calls.{freshOf, Outcome, MonthMeets}
 
 -- ---- a list of calls
 

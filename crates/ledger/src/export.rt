@@ -1,12 +1,12 @@
 // Fresh, month and stock as C calls them, each list as a pointer and a length.
 ghost use mathlib.Core.Path.{_≡_};
-ghost use Rattle.ledger.specs.Calls.{freshOf, stockOf};
-ghost use Rattle.ledger.specs.Answers.{answerOf, answerWord, stockTold, WordMeets};
-use crate::answer::Answer;
-use crate::answer::Stock;
-use crate::fresh::fresh;
-use crate::month::month;
-use crate::stock::stock;
+ghost use Rattle.boards.specs.Calls.{freshOf, stockOf};
+ghost use Rattle.calls.specs.Answers.{answerOf, answerWord, stockTold, WordMeets};
+use calls::answer::Answer;
+use calls::answer::Stock;
+use calls::fresh::fresh;
+use calls::stock::stock;
+use monthrun::month::month;
 
 // The number and the first at fault in one word, the number in the upper half.
 fn word(answer: Answer) -> u64

@@ -1,8 +1,2 @@
-// The calls on lent numbers.
-pub mod answer;
+// The calls on lent numbers, as C has them.
 pub mod export;
-pub mod fresh;
-pub mod month;
-pub mod possible;
-pub mod settle;
-pub mod stock;

@@ -2,9 +2,9 @@
 use mathlib.Core.Path.{refl}
 use Rattle.general.specs.Sums.{sumTo}
 use Rattle.general.specs.Tests.{_and_}
-use Rattle.basin.specs.Bytes.{le16At, le32At}
-use Rattle.basin.specs.File.{offsetOf, countOf, widthOf, sectionOf}
-use Rattle.basin.specs.Records.{rightRecord}
+use Rattle.layout.specs.Bytes.{le16At, le32At}
+use Rattle.layout.specs.File.{offsetOf, countOf, widthOf, sectionOf}
+use Rattle.records.specs.Records.{rightRecord}
 use Rattle.basin.specs.October.{octoberFile}
 use Rattle.listing.specs.Listing.{decimalIn, decimalText, rightLine, rightLines, endLine, outflowIn, evaporationIn, monthText}
 use Rattle.listing.specs.October.{Listed}

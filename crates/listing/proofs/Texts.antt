@@ -7,8 +7,8 @@ use native.Mathlib.Omega.{arith}
 use lib.ListN.{length, getD, take, set, length-set}
 use lib.Seq.{take-suc-set, length-take-le}
 use Rattle.general.specs.Sums.{sumTo}
-use Rattle.basin.specs.Bytes.{le32At}
-use Rattle.basin.specs.Records.{rightCount, rightRecord}
+use Rattle.layout.specs.Bytes.{le32At}
+use Rattle.records.specs.Records.{rightCount, rightRecord}
 use Rattle.io.specs.Counts.{Counts}
 use Rattle.listing.specs.Listing.{digit, decimalText, space, lineOf, endWord, rightLine, rightLines, endLine, outflowIn, evaporationIn, monthText, CanList, Put, PutWhole}
 use Rattle.listing.proofs.Decimals.{one-digit, two-digits, two-more, one-long, two-long, more-long, at-most-twenty}

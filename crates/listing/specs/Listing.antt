@@ -6,7 +6,7 @@ use Prim.Native.Nat.{ℕ, zero, suc, _+_, _-_, _*_, _/_, _%_, _≤_, _<_}
 use lib.Dec.{ltb}
 use lib.ListN.{length, getD, take}
 use Rattle.general.specs.Sums.{sumTo}
-use Rattle.basin.specs.Records.{rightCount, rightRecord}
+use Rattle.records.specs.Records.{rightCount, rightRecord}
 
 -- ---- a number
 

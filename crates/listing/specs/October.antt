@@ -2,7 +2,7 @@
 use mathlib.Core.List.{List, [], _∷_, _++_}
 use mathlib.Core.Path.{_≡_}
 use Prim.Native.Nat.{ℕ}
-use Rattle.basin.specs.File.{sectionOf}
+use Rattle.layout.specs.File.{sectionOf}
 use Rattle.basin.specs.October.{octoberFile}
 use Rattle.listing.specs.Listing.{decimalText, monthText}
 

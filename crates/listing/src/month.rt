@@ -3,13 +3,13 @@ ghost use mathlib.Core.Path.{_≡_};
 ghost use Prim.Native.Nat.{ℕ, _+_, _*_, _≤_, _<_};
 ghost use lib.ListN.{length, getD, take};
 ghost use Rattle.general.specs.Sums.{sumTo};
-ghost use Rattle.basin.specs.Records.{rightCount};
+ghost use Rattle.records.specs.Records.{rightCount};
 ghost use Rattle.io.specs.Counts.{Counts};
 ghost use Rattle.listing.specs.Listing.{rightLine, rightLines, endLine, monthText, CanList, Put};
 use crate::words::put_end_word;
 use crate::words::put_field;
 use crate::words::put_four;
-use basin::bytes::le32;
+use layout::bytes::le32;
 
 fn wide(x: u32) -> u64
     ensures { λ r. ⌜ r ≡ x ⌝ }

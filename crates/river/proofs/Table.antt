@@ -5,8 +5,8 @@ use mathlib.Core.Path.{_≡_}
 use Prim.Native.Nat.{ℕ, _<_}
 use Rattle.general.specs.Tests.{has}
 use Rattle.general.proofs.Routes.{route-from, route-in}
-use Rattle.basin.specs.Table.{stepOf, pathBy, Downhill}
-use Rattle.basin.proofs.Table.{downhill-later}
+use Rattle.records.specs.Table.{stepOf, pathBy, Downhill}
+use Rattle.records.proofs.Table.{downhill-later}
 
 module _ (t : List ℕ) (d : Downhill t) where
   pub by-in : (r : ℕ) → r < 64 → (i : ℕ) → has i (pathBy t r) ≡ true → i < 64

@@ -13,12 +13,12 @@ use Rattle.general.proofs.Tests.{absurd-bool, by-eqb, ltb-yes, ltb-no}
 use Rattle.rules.specs.Path.{untilRow}
 use Rattle.rules.specs.River.{Level, diverted, released, returned}
 use Rattle.rules.proofs.Path.{until-none, until-stop, until-on}
-use Rattle.basin.specs.declared.network.Below.{Below}
-use Rattle.basin.specs.declared.network.Below.the-variants.{Row, Nothing}
-use Rattle.basin.specs.Network.{belowOf}
-use Rattle.basin.specs.Table.{stepOf, pathBy, OnTable}
-use Rattle.basin.proofs.Table as table
-use Rattle.basin.proofs.Table.{by-end, by-self}
+use Rattle.records.specs.declared.network.Below.{Below}
+use Rattle.records.specs.declared.network.Below.the-variants.{Row, Nothing}
+use Rattle.records.specs.Network.{belowOf}
+use Rattle.records.specs.Table.{stepOf, pathBy, OnTable}
+use Rattle.records.proofs.Table as table
+use Rattle.records.proofs.Table.{by-end, by-self}
 use Rattle.river.specs.declared.Seen.{Seen}
 use Rattle.river.specs.declared.Seen.the-variants.{Called, Low}
 use Rattle.river.specs.Arrays.{rowLevel, seenAs, seenOn, Enough, Room, CanDivert, CanReturn, CanRelease, CanLook, Walked, Raised}

@@ -9,7 +9,7 @@ use lib.IntN.{pos}
 use Rattle.general.specs.Tables.{tab}
 use Rattle.general.specs.Tests.{has}
 use Rattle.rules.specs.River.{Level, along}
-use Rattle.basin.specs.Table.{pathBy, OnTable}
+use Rattle.records.specs.Table.{pathBy, OnTable}
 use Rattle.river.specs.declared.Seen.{Seen}
 use Rattle.river.specs.declared.Seen.the-variants.{Called, Low}
 

@@ -7,10 +7,10 @@ ghost use Prim.Native.Nat.{_<_};
 ghost use lib.ListN.{getD};
 ghost use Rattle.rules.specs.Path.{untilRow};
 ghost use Rattle.rules.specs.River.{diverted, released, returned};
-ghost use Rattle.basin.specs.Table.{pathBy};
+ghost use Rattle.records.specs.Table.{pathBy};
 ghost use Rattle.river.specs.Arrays.{seenAs, seenOn, CanDivert, CanReturn, CanRelease, CanLook, Walked, Raised};
-use basin::network::Below;
-use basin::network::next_row;
+use records::network::Below;
+use records::network::next_row;
 
 // What a look down a path sees: the row of a right that is short already, or the row with the lowest available flow.
 pub enum Seen {

@@ -1,11 +1,11 @@
 // Calls fresh, month and stock on the October basin, with numbers that are turned down and then with good ones, and prints each answer. The
 // good month comes last, so it shows that the calls before it changed nothing.
 ghost use Rattle.io.specs.Counts.{Counts};
-use ledger::answer::Answer;
-use ledger::fresh::fresh;
-use ledger::month::month;
-use ledger::stock::stock;
+use calls::answer::Answer;
+use calls::fresh::fresh;
+use calls::stock::stock;
 use libc::STDOUT_FILENO;
+use monthrun::month::month;
 
 fn read_october(buf: &mut [u8]) -> usize
     ensures { λ r. ⌜ Counts r (now (buf .exit)) ⌝ }

@@ -12,21 +12,21 @@ use Rattle.rules.specs.Basin.{Basin, rows}
 use Rattle.rules.specs.Tally.{fresh}
 use Rattle.rules.proofs.Bounds.{fresh-possible}
 use Rattle.basin.specs.declared.Verdict.the-variants as verdict
-use Rattle.basin.specs.Bytes.{le32At}
+use Rattle.layout.specs.Bytes.{le32At}
 use Rattle.basin.specs.Check.{checkOf}
-use Rattle.basin.specs.File.{sectionOf}
-use Rattle.basin.specs.Records.{rowsOf, reservoirCount, rightCount, basinOf}
+use Rattle.layout.specs.File.{sectionOf}
+use Rattle.records.specs.Records.{rowsOf, reservoirCount, rightCount, basinOf}
 use Rattle.basin.proofs.Accepted.{accepted-facts}
-use Rattle.basin.proofs.Rows.{rows-are}
-use Rattle.ledger.specs.Board.{possible}
-use Rattle.ledger.specs.Bodies.{bodies, startBoard}
-use Rattle.ledger.specs.Calls.{Outcome}
+use Rattle.records.proofs.Rows.{rows-are}
+use Rattle.boards.specs.Board.{possible}
+use Rattle.boards.specs.Bodies.{bodies, startBoard}
+use Rattle.boards.specs.Calls.{Outcome}
 use Rattle.ledger.specs.Demand3.{tallyBoard}
-use Rattle.ledger.specs.Report.{reservoirsFrom}
-use Rattle.ledger.specs.Steps.{CanGoOn, WentOn}
-use Rattle.ledger.proofs.Bodies.{basin-bodies, reservoirs-are, rights-are, start-length, fresh-here}
-use Rattle.ledger.proofs.Bounds.{bounded}
-use Rattle.ledger.proofs.Going.{still-possible, losses-told}
+use Rattle.boards.specs.Report.{reservoirsFrom}
+use Rattle.steps.specs.Steps.{CanGoOn, WentOn}
+use Rattle.boards.proofs.Bodies.{basin-bodies, reservoirs-are, rights-are, start-length, fresh-here}
+use Rattle.boards.proofs.Bounds.{bounded}
+use Rattle.monthrun.proofs.Going.{still-possible, losses-told}
 use Rattle.ledger.proofs.Tally.{tally-possible, tally-fresh}
 use Rattle.riverrun.specs.Sheets.{sheetOf, Lent, CanPrint}
 

@@ -7,10 +7,10 @@ use lib.ListN.{length}
 use Rattle.general.specs.Tables.{tab}
 use Rattle.rules.specs.Accepted.{Accepted}
 use Rattle.rules.specs.Basin.{rows}
-use Rattle.basin.specs.Bytes.{le32At}
-use Rattle.ledger.specs.Board.{possible}
-use Rattle.basin.specs.Records.{rowsOf, reservoirCount}
-use Rattle.ledger.specs.Bodies.{bodies, Bounded}
+use Rattle.layout.specs.Bytes.{le32At}
+use Rattle.boards.specs.Board.{possible}
+use Rattle.records.specs.Records.{rowsOf, reservoirCount}
+use Rattle.boards.specs.Bodies.{bodies, Bounded}
 use Rattle.listing.specs.Listing.{CanList}
 
 -- "runoff, month after month": n numbers of four bytes

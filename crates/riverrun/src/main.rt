@@ -2,7 +2,7 @@
 // lines of each month, and at a refusal its number and place. Given names, two to a run, it lists those files instead, run after run.
 ghost use Prim.Native.Nat.{_<_};
 ghost use Rattle.io.specs.Counts.{Counts};
-use ledger::answer::on_file;
+use calls::answer::on_file;
 use libc::STDOUT_FILENO;
 
 mod months;

@@ -2,26 +2,26 @@
 ghost use mathlib.Core.Path.{_≡_};
 ghost use Prim.Native.Nat.{_*_, _≤_, _<_};
 ghost use lib.ListN.{length};
-ghost use Rattle.ledger.specs.Bodies.{bodies};
+ghost use Rattle.boards.specs.Bodies.{bodies};
 ghost use Rattle.basin.specs.Check.{checkOf};
 ghost use Rattle.basin.specs.declared.Verdict.the-variants.{Accepted};
-ghost use Rattle.ledger.specs.Board.{possible};
+ghost use Rattle.boards.specs.Board.{possible};
 ghost use Rattle.riverrun.specs.Sheets.{sheetOf, Lent, CanPrint};
 ghost use mathlib.Core.Bool.{true};
-use basin::bytes::le32;
-use basin::contents::PATTERNS;
-use basin::contents::RESERVOIRS;
-use basin::contents::RIGHTS;
-use basin::contents::STATIONS;
-use basin::contents::section;
-use ledger::answer::Answer;
-use ledger::answer::LISTS;
-use ledger::fresh::write_fresh;
-use ledger::month::go_on;
-use ledger::stock::due_sum;
-use ledger::stock::storage_sum;
+use calls::answer::Answer;
+use calls::answer::LISTS;
+use calls::fresh::write_fresh;
+use calls::stock::due_sum;
+use calls::stock::storage_sum;
+use layout::bytes::le32;
+use layout::contents::PATTERNS;
+use layout::contents::RESERVOIRS;
+use layout::contents::RIGHTS;
+use layout::contents::STATIONS;
+use layout::contents::section;
 use libc::STDOUT_FILENO;
 use listing::month::put_month;
+use monthrun::month::go_on;
 
 // "A refusal prints `refused`, number, place, and ends the run."
 pub fn print_refusal(answer: Answer) {

@@ -11,21 +11,21 @@ use Rattle.general.proofs.Tests.{absurd-bool, by-eqb}
 use Rattle.rules.specs.Basin.{Basin, Reservoir, Right, Kind, direct, project, instream, storage, noReservoir, noRight, rows, patternOf}
 use Rattle.rules.specs.Returns.{Part, partsOf, returnedAt}
 use Rattle.rules.specs.Turn.{State, demand, riverPart, riverStage, storagePart, storageStage, returnStage, granted, Grant, Turn, turn}
-use Rattle.basin.specs.declared.rights.RightRecord.{RightRecord}
-use Rattle.basin.specs.Records.{rightCount, rightRecord, kindOf, rightOf}
+use Rattle.records.specs.declared.rights.RightRecord.{RightRecord}
+use Rattle.records.specs.Records.{rightCount, rightRecord, kindOf, rightOf}
 use Rattle.river.specs.Arrays.{levelsOf}
-use Rattle.turns.specs.declared.grants.Grant as program
-use Rattle.turns.specs.declared.grants.Reason as why
-use Rattle.turns.specs.declared.grants.Reason.the-variants.{Met}
-use Rattle.turns.specs.declared.grants.RiverPart.{RiverPart}
-use Rattle.turns.specs.Dues.{mostAmount}
-use Rattle.turns.specs.Grants.{CanSee, seenBy, partOf, RiverGave}
-use Rattle.turns.specs.Returning.{dueIn, partsIn, RiverOk, BoardOk, Gave}
+use Rattle.grants.specs.declared.grants.Grant as program
+use Rattle.grants.specs.declared.grants.Reason as why
+use Rattle.grants.specs.declared.grants.Reason.the-variants.{Met}
+use Rattle.grants.specs.declared.grants.RiverPart.{RiverPart}
+use Rattle.returns.specs.Dues.{mostAmount}
+use Rattle.grants.specs.Grants.{CanSee, seenBy, partOf, RiverGave}
+use Rattle.returns.specs.Returning.{dueIn, partsIn, RiverOk, BoardOk, Gave}
 use Rattle.turns.specs.Finish.{restOf, CanFinish, Finished, shortReason}
 use Rattle.turns.specs.State.{stateOf, Setting, Within, homeOf, Tells, Kept, Turned}
-use Rattle.turns.specs.Stages.{isStorage, askIn, levelsTaken, CanTake, Taken, capacityIn, boardStored, CanFill, levelsReleased, homeRow, CanDraw, Drawn}
+use Rattle.grants.specs.Stages.{isStorage, askIn, levelsTaken, CanTake, Taken, capacityIn, boardStored, CanFill, levelsReleased, homeRow, CanDraw, Drawn}
 use Rattle.turns.proofs.Keeping.{kept-same, kept-on, kept-stored, kept-drawn}
-use Rattle.turns.proofs.RightKinds.{not-project}
+use Rattle.grants.proofs.RightKinds.{not-project}
 use Rattle.turns.proofs.Facts.{reservoirs-count, rights-count, place-most, project-behind, storage-behind, kind-is, points-ok}
 use Rattle.turns.proofs.Demands.{ask-is, part-is}
 use Rattle.turns.proofs.StageStates.{river-stage, drawn-is, storage-stage-is, parts-is, pattern-either, return-stage}

@@ -22,20 +22,20 @@ use Rattle.rules.specs.Path.{path}
 use Rattle.rules.specs.River.{Level, dry, levelAt, availableAt, lower, lowest, lesser}
 use Rattle.rules.specs.Turn.{State, pathOf, storageOf, markOf, bit, scheduled, demand, anyOn, called, divertible, riverPart, keepIf, lowestOn, numberAt}
 use Rattle.rules.specs.Accepted.{GoodRight}
-use Rattle.basin.specs.Records.{reservoirCount, rightCount, rightRecord, amountAt, kindOf, rightOf}
+use Rattle.records.specs.Records.{reservoirCount, rightCount, rightRecord, amountAt, kindOf, rightOf}
 use Rattle.river.specs.declared.Seen.{Seen}
 use Rattle.river.specs.declared.Seen.the-variants as seen
-use Rattle.basin.specs.Table.{pathBy}
+use Rattle.records.specs.Table.{pathBy}
 use Rattle.river.specs.Arrays.{levelsOf, rowLevel, seenOn}
 use Rattle.river.proofs.Levels.{levels-at}
-use Rattle.basin.proofs.Table.{by-self}
-use Rattle.turns.specs.Dues.{mostAmount}
-use Rattle.turns.specs.Grants.{seenBy, partOf}
+use Rattle.records.proofs.Table.{by-self}
+use Rattle.returns.specs.Dues.{mostAmount}
+use Rattle.grants.specs.Grants.{seenBy, partOf}
 use Rattle.turns.specs.State.{storagesOf, marksOf, takenOf, shortOf, stateOf, Setting, Within}
-use Rattle.turns.specs.Stages.{amountIn, askOf, askIn, capacityIn, RoomLeft, isStorage}
+use Rattle.grants.specs.Stages.{amountIn, askOf, askIn, capacityIn, RoomLeft, isStorage}
 use Rattle.turns.proofs.Facts.{downhill, path-is, path-in, reservoirs-count, rights-count, right-is, capacity-is, right-good, kind-is, row-is, reservoir-of, limit-is, row-in, row-on, storage-behind}
-use Rattle.turns.proofs.Looks.{seen-called, LowSeen, seen-low}
-use Rattle.turns.proofs.RightKinds.{by-kind}
+use Rattle.grants.proofs.Looks.{seen-called, LowSeen, seen-low}
+use Rattle.grants.proofs.RightKinds.{by-kind}
 use Rattle.turns.proofs.Places.{storage-at, taken-at, mark-at}
 
 -- ---- the lowest available flow, as a natural number

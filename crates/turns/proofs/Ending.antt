@@ -8,12 +8,12 @@ use native.Mathlib.Omega.{arith}
 use lib.Dec.{ltb}
 use lib.ListN.{length, getD, set}
 use Rattle.general.proofs.Tests.{ltb-yes, ltb-no}
-use Rattle.basin.specs.declared.rights.RightRecord.{RightRecord}
-use Rattle.turns.specs.declared.grants.Grant.{Grant}
-use Rattle.turns.specs.declared.grants.Reason.{Reason}
-use Rattle.turns.specs.declared.grants.Reason.the-variants.{Met}
-use Rattle.turns.specs.Dues.{mostAmount}
-use Rattle.turns.specs.Returning.{PointsOk, CanGive, Gave}
+use Rattle.records.specs.declared.rights.RightRecord.{RightRecord}
+use Rattle.grants.specs.declared.grants.Grant.{Grant}
+use Rattle.grants.specs.declared.grants.Reason.{Reason}
+use Rattle.grants.specs.declared.grants.Reason.the-variants.{Met}
+use Rattle.returns.specs.Dues.{mostAmount}
+use Rattle.returns.specs.Returning.{PointsOk, CanGive, Gave}
 use Rattle.turns.specs.Finish.{restOf, CanFinish, Finished}
 
 module _ (t : List ℕ) (pa : List (List ℕ)) (ri : List ℕ) (i : ℕ) (r : RightRecord) (part stored : ℕ) (f a : List ℕ) (sh : List Bool) (bd : List ℕ) (points which e row : ℕ)

@@ -19,16 +19,16 @@ use Rattle.rules.specs.Path.{path}
 use Rattle.rules.proofs.Path as paths
 use Rattle.rules.specs.Returns.{percents}
 use Rattle.rules.specs.Accepted.{GoodReservoir, GoodRight, ReservoirOk, ReturnsOk, Unreturned, Returned, Accepted}
-use Rattle.basin.specs.declared.rights.RightRecord.{RightRecord}
-use Rattle.basin.specs.Records as records
-use Rattle.basin.specs.Records.{rowsOf, stationsOf, reservoirCount, reservoirRecord, reservoirsOf, rightCount, rightRecord, amountAt, returnRow, returnPercent, kindOf, rightOf, rightsOf}
-use Rattle.basin.proofs.Rows.{rows-are}
-use Rattle.basin.specs.Table.{tableOf, pathBy, Downhill}
-use Rattle.basin.proofs.Table.{table-downhill, table-path}
-use Rattle.turns.specs.Dues.{mostAmount, Whole}
-use Rattle.turns.specs.Returning.{pointsUpTo, PointsOk}
+use Rattle.records.specs.declared.rights.RightRecord.{RightRecord}
+use Rattle.records.specs.Records as records
+use Rattle.records.specs.Records.{rowsOf, stationsOf, reservoirCount, reservoirRecord, reservoirsOf, rightCount, rightRecord, amountAt, returnRow, returnPercent, kindOf, rightOf, rightsOf}
+use Rattle.records.proofs.Rows.{rows-are}
+use Rattle.records.specs.Table.{tableOf, pathBy, Downhill}
+use Rattle.records.proofs.Table.{table-downhill, table-path}
+use Rattle.returns.specs.Dues.{mostAmount, Whole}
+use Rattle.returns.specs.Returning.{pointsUpTo, PointsOk}
 use Rattle.turns.specs.State.{Setting}
-use Rattle.turns.specs.Stages.{capacityIn, homeRow}
+use Rattle.grants.specs.Stages.{capacityIn, homeRow}
 
 module _ (b : Basin) (st t rs : List ℕ) (pa : List (List ℕ)) (ri : List ℕ) (w : Setting b st t rs pa ri) where
   -- ---- counts
@@ -215,7 +215,7 @@ module _ (b : Basin) (st t rs : List ℕ) (pa : List (List ℕ)) (ri : List ℕ)
     -- ---- its reservoir
 
     pub project-behind : (rightRecord ri i) .kind ≡ 2 → (rightRecord ri i) .reservoir < reservoirCount rs
-    project-behind e = go ((rightOf ri i) .kind) (kind-is ∙ Rattle.turns.proofs.RightKinds.kind-project _ e) (right-good .reservoir-ok)
+    project-behind e = go ((rightOf ri i) .kind) (kind-is ∙ Rattle.grants.proofs.RightKinds.kind-project _ e) (right-good .reservoir-ok)
       where
         go : (k : Kind) → k ≡ project → ReservoirOk k b (rightOf ri i) → (rightRecord ri i) .reservoir < reservoirCount rs
         go direct f o = let z : _≡_ {A = ℕ} 0 1 = cc in absurd (omega arith)

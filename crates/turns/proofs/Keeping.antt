@@ -12,9 +12,9 @@ use lib.Seq.{getD-set-same, getD-set-other}
 use Rattle.general.proofs.Tests.{lt-of}
 use Rattle.rules.specs.Basin.{Basin, Kind, direct, project, instream, storage}
 use Rattle.rules.specs.Turn.{bit}
-use Rattle.turns.specs.Stages.{isStorage, markedBoard, poured, boardStored, boardDrawn}
+use Rattle.grants.specs.Stages.{isStorage, markedBoard, poured, boardStored, boardDrawn}
 use Rattle.turns.specs.State.{Kept}
-use Rattle.turns.proofs.RightKinds.{nine}
+use Rattle.grants.proofs.RightKinds.{nine}
 use Rattle.turns.proofs.Places.{bit-suc, not-odd, poured-other}
 
 -- a mark that was not set is one more within the word

@@ -1,7 +1,3 @@
-pub mod Shares
-pub mod Points
-pub mod Looks
-pub mod RightKinds
 pub mod Places
 pub mod Keeping
 pub mod Facts
@@ -13,5 +9,3 @@ pub mod Readying
 pub mod Assembling
 pub mod Naming
 pub mod Lining
-pub mod Openings
-pub mod Evaporating

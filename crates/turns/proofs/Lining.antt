@@ -19,10 +19,10 @@ use Rattle.rules.specs.Turn.{State, Grant, granted, Turn, turn}
 use Rattle.rules.specs.Month.{turns, afterTurns, grantsOf, returnedBy, returnsAt, reasonNumber, isShort, shortCount}
 use Rattle.rules.proofs.Bounds.{Capped, StateCapped, turn-capped}
 use Rattle.rules.proofs.Months.{turns-length}
-use Rattle.basin.specs.Records.{rightCount, rightOf}
-use Rattle.turns.specs.declared.grants.Grant as program
-use Rattle.turns.specs.Dues.{mostAmount}
-use Rattle.turns.specs.Returning.{dueIn, RiverOk, BoardOk}
+use Rattle.records.specs.Records.{rightCount, rightOf}
+use Rattle.grants.specs.declared.grants.Grant as program
+use Rattle.returns.specs.Dues.{mostAmount}
+use Rattle.returns.specs.Returning.{dueIn, RiverOk, BoardOk}
 use Rattle.turns.specs.State.{storagesOf, marksOf, takenOf, stateOf, Setting, Within, whyOf, namedBy, homeOf, Turned}
 use Rattle.turns.specs.Lines.{lineOf, shortOne, CanLine, LineServed, noGrant, grantAt, LinesTo, turnsFrom, ServedTo, Served}
 use Rattle.turns.proofs.Places.{storage-at, taken-at}

@@ -10,11 +10,11 @@ use Rattle.rules.specs.Basin.{Station, Reservoir, Kind, direct, project, instre
 use Rattle.rules.specs.Turn.{State, called, Reason, met, calledOut, riverLow, storageOut, shortage, reasonOf, numberAt, granted, turn}
 use Rattle.rules.specs.Month.{reasonNumber}
 use Rattle.rules.specs.Accepted.{ReservoirOk}
-use Rattle.basin.specs.Records.{stationsOf, rowsOf, reservoirCount, rightCount, rightRecord, rightOf}
-use Rattle.turns.specs.declared.grants.Reason.{Reason as ReasonMade}
-use Rattle.turns.specs.declared.grants.Reason.the-variants.{Met, Called, RiverLow, StorageOut}
-use Rattle.turns.specs.declared.grants.Grant.{Grant as GrantMade}
-use Rattle.turns.specs.Stages.{homeRow}
+use Rattle.records.specs.Records.{stationsOf, rowsOf, reservoirCount, rightCount, rightRecord, rightOf}
+use Rattle.grants.specs.declared.grants.Reason.{Reason as ReasonMade}
+use Rattle.grants.specs.declared.grants.Reason.the-variants.{Met, Called, RiverLow, StorageOut}
+use Rattle.grants.specs.declared.grants.Grant.{Grant as GrantMade}
+use Rattle.grants.specs.Stages.{homeRow}
 use Rattle.turns.specs.State.{Setting, whyOf, namedBy, homeOf, Tells}
 use Rattle.turns.specs.Lines.{homeNumber, CanName}
 use Rattle.turns.proofs.Facts.{rows-st, reservoirs-count, home-is, home-in, right-good, reservoir-of}

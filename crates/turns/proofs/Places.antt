@@ -14,8 +14,8 @@ use Rattle.general.proofs.Tables.{tab-length, tab-at, tab-same}
 use Rattle.general.proofs.Tests.{absurd-bool, by-eqb, eqb-same}
 use Rattle.rules.specs.Turn.{bit}
 use Rattle.turns.specs.State.{storagesOf, marksOf, takenOf, shortOf}
-use Rattle.turns.specs.Stages.{markedBoard, poured}
-use Rattle.turns.proofs.RightKinds.{shifted, nine}
+use Rattle.grants.specs.Stages.{markedBoard, poured}
+use Rattle.grants.proofs.RightKinds.{shifted, nine}
 
 -- ---- a table after one of its places is stored to
 

@@ -17,24 +17,24 @@ use Rattle.general.proofs.Tests.{absurd-bool, by-eqb, eq-of, eqb-other, only-le
 use Rattle.rules.specs.Basin.{Reservoir, Kind, direct, project, instream, storage, Right, Basin, reservoirAt, rightAt}
 use Rattle.rules.specs.River.{Level, levelAt, along, diverted, reserved, released}
 use Rattle.rules.specs.Turn.{bit}
-use Rattle.basin.specs.Records.{rowsOf, reservoirCount, rightCount, rightRecord, kindOf, rightOf}
+use Rattle.records.specs.Records.{rowsOf, reservoirCount, rightCount, rightRecord, kindOf, rightOf}
 use Rattle.river.specs.declared.Seen.{Seen}
 use Rattle.river.specs.declared.Seen.the-variants as seen
-use Rattle.basin.specs.Table.{pathBy}
+use Rattle.records.specs.Table.{pathBy}
 use Rattle.river.specs.Arrays.{levelsOf, seenOn, Enough, Room, CanDivert, CanRelease, rowLevel}
 use Rattle.river.proofs.Levels.{change-read, diverted-read, released-read, levels-at}
-use Rattle.basin.proofs.Table.{by-self}
+use Rattle.records.proofs.Table.{by-self}
 use Rattle.river.proofs.Table.{by-in}
-use Rattle.turns.specs.Dues.{mostAmount, roomy, Roomy}
-use Rattle.turns.specs.Grants.{CanSee, seenBy, partOf}
-use Rattle.turns.specs.Returning.{RiverOk, BoardOk}
+use Rattle.returns.specs.Dues.{mostAmount, roomy, Roomy}
+use Rattle.grants.specs.Grants.{CanSee, seenBy, partOf}
+use Rattle.returns.specs.Returning.{RiverOk, BoardOk}
 use Rattle.turns.specs.Finish.{CanFinish}
 use Rattle.turns.specs.State.{Setting, Within}
-use Rattle.turns.specs.Stages.{isStorage, askIn, RoomLeft, CanAsk, levelsTaken, CanTake, capacityIn, poured, boardStored, CanFill, drawnIn, boardDrawn, levelsReleased, homeRow, CanDraw}
+use Rattle.grants.specs.Stages.{isStorage, askIn, RoomLeft, CanAsk, levelsTaken, CanTake, capacityIn, poured, boardStored, CanFill, drawnIn, boardDrawn, levelsReleased, homeRow, CanDraw}
 use Rattle.turns.proofs.Facts.{rows-st, few, path-in, reservoirs-count, rights-count, right-is, capacity-is, home-in, right-good, place-most, kind-is, limit-is, row-in, row-on, efficiency-is, points-ok, project-behind, storage-behind}
-use Rattle.turns.proofs.Looks.{seen-low}
+use Rattle.grants.proofs.Looks.{seen-low}
 use Rattle.turns.proofs.Places.{poured-size, poured-grown, poured-other}
-use Rattle.turns.proofs.RightKinds.{by-kind, kind-project, not-project}
+use Rattle.grants.proofs.RightKinds.{by-kind, kind-project, not-project}
 use Rattle.turns.proofs.Demands.{ask-most, ask-marked, lowest-is}
 
 -- ---- what a river part leaves of the arrays, row by row

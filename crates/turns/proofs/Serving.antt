@@ -19,22 +19,22 @@ use Rattle.rules.specs.River.{Level, availableAt, lowest}
 use Rattle.rules.specs.Returns.{partsOf, returnedAt, Part}
 use Rattle.rules.specs.Turn.{State, pathOf, demand, called, riverPart, riverStage, storagePart, storageStage, returnStage, Reason, met, calledOut, riverLow, storageOut, shortage, reasonOf, keepIf, lowestOn, lowRows, numberAt, controlling, Grant, granted, Turn, turn}
 use Rattle.rules.specs.Month.{reasonNumber}
-use Rattle.basin.specs.Records.{stationsOf, reservoirCount, rightCount, rightRecord, kindOf, rightOf}
+use Rattle.records.specs.Records.{stationsOf, reservoirCount, rightCount, rightRecord, kindOf, rightOf}
 use Rattle.river.specs.declared.Seen.{Seen}
 use Rattle.river.specs.declared.Seen.the-variants as seen
-use Rattle.basin.specs.Table.{pathBy}
+use Rattle.records.specs.Table.{pathBy}
 use Rattle.river.specs.Arrays.{seenOn}
-use Rattle.turns.specs.declared.grants.Grant as program
-use Rattle.turns.specs.declared.grants.Reason as why
-use Rattle.turns.specs.declared.grants.Reason.the-variants.{Met, Called, RiverLow, StorageOut}
-use Rattle.turns.specs.declared.grants.RiverPart.{RiverPart}
-use Rattle.turns.specs.Grants as grants
-use Rattle.turns.specs.Grants.{seenBy, partOf, RiverGave}
+use Rattle.grants.specs.declared.grants.Grant as program
+use Rattle.grants.specs.declared.grants.Reason as why
+use Rattle.grants.specs.declared.grants.Reason.the-variants.{Met, Called, RiverLow, StorageOut}
+use Rattle.grants.specs.declared.grants.RiverPart.{RiverPart}
+use Rattle.grants.specs.Grants as grants
+use Rattle.grants.specs.Grants.{seenBy, partOf, RiverGave}
 use Rattle.turns.specs.Finish.{shortReason}
 use Rattle.turns.specs.State.{stateOf, shortOf, Setting, whyOf, namedBy, homeOf, Tells}
-use Rattle.turns.proofs.RightKinds.{by-kind}
+use Rattle.grants.proofs.RightKinds.{by-kind}
 use Rattle.turns.proofs.Facts.{path-in, right-good, kind-is, row-is, row-in}
-use Rattle.turns.proofs.Looks.{seen-called}
+use Rattle.grants.proofs.Looks.{seen-called}
 use Rattle.turns.proofs.Demands.{path-of, called-is, available-is, lowest-is, short-at}
 
 -- ---- the turn by its stages

@@ -21,18 +21,18 @@ use Rattle.rules.specs.Returns.{consumption, returning, shares, Part, partsAt, 
 use Rattle.rules.specs.Turn.{State, pathOf, storageOf, bit, withLevels, afterDiversion, riverStage, storagePart, storageStage, returnStage}
 use Rattle.rules.specs.Accepted.{GoodRight, ReturnsOk, Unreturned, Returned}
 use Rattle.rules.proofs.Splits.{shares-length}
-use Rattle.basin.specs.Records.{reservoirCount, reservoirRecord, rightCount, rightRecord, returnRow, returnPercent, kindOf, rightOf}
-use Rattle.basin.specs.Table.{pathBy}
+use Rattle.records.specs.Records.{reservoirCount, reservoirRecord, rightCount, rightRecord, returnRow, returnPercent, kindOf, rightOf}
+use Rattle.records.specs.Table.{pathBy}
 use Rattle.river.specs.Arrays.{levelsOf}
-use Rattle.turns.specs.Dues.{mostAmount}
-use Rattle.turns.specs.Returning.{pointsUpTo, partIn, partsIn, returnBy, PointsOk, Gave}
+use Rattle.returns.specs.Dues.{mostAmount}
+use Rattle.returns.specs.Returning.{pointsUpTo, partIn, partsIn, returnBy, PointsOk, Gave}
 use Rattle.turns.specs.Finish.{restOf}
 use Rattle.turns.specs.State.{storagesOf, marksOf, takenOf, shortOf, stateOf, Setting}
-use Rattle.turns.specs.Stages.{isStorage, capacityIn, levelsTaken, markedBoard, poured, boardStored, drawnIn, boardDrawn, levelsReleased, homeRow}
-use Rattle.turns.proofs.Shares.{upTo, share-at}
+use Rattle.grants.specs.Stages.{isStorage, capacityIn, levelsTaken, markedBoard, poured, boardStored, drawnIn, boardDrawn, levelsReleased, homeRow}
+use Rattle.returns.proofs.Shares.{upTo, share-at}
 use Rattle.turns.proofs.Facts.{path-is, reservoirs-count, rights-count, right-is, capacity-is, home-is, home-in, right-good, kind-is, row-is, reservoir-of, row-in, row-on, efficiency-is, points-are, pointAt, point-in, points-count, percents-count, pattern-same, percent-at, project-behind, storage-behind}
 use Rattle.turns.proofs.Places.{storage-at, taken-at, mark-at, storages-set, shorts-set, taken-off, marks-off, places-same, storages-poured, taken-poured, marks-poured}
-use Rattle.turns.proofs.RightKinds.{stored-not, stored-is, not-project}
+use Rattle.grants.proofs.RightKinds.{stored-not, stored-is, not-project}
 use Rattle.turns.proofs.Demands.{path-of, state-storage, state-capacity}
 
 state-path : (l l′ : List Level) (x x′ : List ℕ) (m m′ : List Bool) (y y′ : List ℕ) (z z′ : List Bool) → l ≡ l′ → x ≡ x′ → m ≡ m′ → y ≡ y′ → z ≡ z′

@@ -5,12 +5,12 @@ use mathlib.Core.Path.{_≡_}
 use Prim.Native.Nat.{ℕ, _+_, _-_, _*_, _/_, _≤_, _<_}
 use lib.Dec.{ltb, eqb}
 use lib.ListN.{length, getD, set}
-use Rattle.basin.specs.declared.rights.RightRecord.{RightRecord}
-use Rattle.turns.specs.declared.grants.Grant.{Grant}
-use Rattle.turns.specs.declared.grants.Reason.{Reason}
-use Rattle.turns.specs.declared.grants.Reason.the-variants.{Met, StorageOut}
-use Rattle.turns.specs.Dues.{mostAmount, roomy}
-use Rattle.turns.specs.Returning.{RiverOk, BoardOk, PointsOk, Gave}
+use Rattle.records.specs.declared.rights.RightRecord.{RightRecord}
+use Rattle.grants.specs.declared.grants.Grant.{Grant}
+use Rattle.grants.specs.declared.grants.Reason.{Reason}
+use Rattle.grants.specs.declared.grants.Reason.the-variants.{Met, StorageOut}
+use Rattle.returns.specs.Dues.{mostAmount, roomy}
+use Rattle.returns.specs.Returning.{RiverOk, BoardOk, PointsOk, Gave}
 
 -- what of a diversion d returns, at efficiency e
 abbrev pub restOf : ℕ → ℕ → ℕ

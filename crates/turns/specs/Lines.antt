@@ -10,13 +10,13 @@ use Rattle.general.specs.Tests.{has}
 use Rattle.rules.specs.Basin.{Basin, rows}
 use Rattle.rules.specs.Turn.{State, Grant, met, numberAt, Turn}
 use Rattle.rules.specs.Month.{turns, afterTurns, grantsOf, returnsAt, reasonNumber, shortCount}
-use Rattle.basin.specs.Records.{stationsOf, rowsOf, reservoirCount, rightCount, rightOf}
-use Rattle.turns.specs.declared.grants.Grant as program
-use Rattle.turns.specs.declared.grants.Reason.{Reason}
-use Rattle.turns.specs.declared.grants.Reason.the-variants.{StorageOut}
-use Rattle.turns.specs.Dues.{mostAmount}
-use Rattle.turns.specs.Returning.{dueIn, RiverOk, BoardOk}
-use Rattle.turns.specs.Stages.{homeRow}
+use Rattle.records.specs.Records.{stationsOf, rowsOf, reservoirCount, rightCount, rightOf}
+use Rattle.grants.specs.declared.grants.Grant as program
+use Rattle.grants.specs.declared.grants.Reason.{Reason}
+use Rattle.grants.specs.declared.grants.Reason.the-variants.{StorageOut}
+use Rattle.returns.specs.Dues.{mostAmount}
+use Rattle.returns.specs.Returning.{dueIn, RiverOk, BoardOk}
+use Rattle.grants.specs.Stages.{homeRow}
 use Rattle.turns.specs.State.{stateOf, Setting, Within, Ready, Kept, Turned, whyOf, namedBy, homeOf}
 
 -- ---- one line

@@ -13,14 +13,14 @@ use Rattle.rules.specs.Returns.{partsOf, returnedAt}
 use Rattle.rules.specs.Turn.{State, bit, Grant, granted, Turn, turn}
 use Rattle.rules.specs.Month.{reasonNumber}
 use Rattle.rules.specs.Accepted.{Accepted}
-use Rattle.basin.specs.Records.{stationsOf, reservoirsOf, reservoirCount, reservoirRecord, rightsOf, rightCount, rightRecord, rightOf, kindOf}
-use Rattle.basin.specs.Table.{tableOf}
+use Rattle.records.specs.Records.{stationsOf, reservoirsOf, reservoirCount, reservoirRecord, rightsOf, rightCount, rightRecord, rightOf, kindOf}
+use Rattle.records.specs.Table.{tableOf}
 use Rattle.river.specs.Arrays.{levelsOf}
-use Rattle.turns.specs.declared.grants.Grant.{Grant as GrantMade}
-use Rattle.turns.specs.declared.grants.Reason.{Reason}
-use Rattle.turns.specs.declared.grants.Reason.the-variants.{Met, Called, RiverLow, StorageOut}
-use Rattle.turns.specs.Dues.{mostAmount, roomy, Roomy}
-use Rattle.turns.specs.Returning.{dueIn, RiverOk, BoardOk}
+use Rattle.grants.specs.declared.grants.Grant.{Grant as GrantMade}
+use Rattle.grants.specs.declared.grants.Reason.{Reason}
+use Rattle.grants.specs.declared.grants.Reason.the-variants.{Met, Called, RiverLow, StorageOut}
+use Rattle.returns.specs.Dues.{mostAmount, roomy, Roomy}
+use Rattle.returns.specs.Returning.{dueIn, RiverOk, BoardOk}
 
 -- ---- the state that the arrays hold
 

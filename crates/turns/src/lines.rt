@@ -3,18 +3,18 @@ ghost use mathlib.Core.Path.{_≡_};
 ghost use Prim.Native.Nat.{_+_, _*_, _≤_, _<_};
 ghost use lib.ListN.{length};
 ghost use Rattle.rules.specs.Basin.{Basin};
-ghost use Rattle.basin.specs.Records.{rowsOf, reservoirCount, rightCount};
+ghost use Rattle.records.specs.Records.{rowsOf, reservoirCount, rightCount};
 ghost use Rattle.turns.specs.Lines.{homeNumber, CanName, lineOf, shortOne, CanLine, LineServed, CanServe, Served};
-ghost use Rattle.turns.specs.Stages.{homeRow};
+ghost use Rattle.grants.specs.Stages.{homeRow};
 ghost use Rattle.turns.specs.State.{whyOf, namedBy, Setting};
-use crate::grants::Grant;
-use crate::grants::Reason;
-use crate::grants::station_number;
-use crate::numbers::wide32;
 use crate::serve::serve_right;
-use basin::bytes::index;
-use basin::reservoirs::reservoir_at;
-use basin::rights::right_at;
+use grants::grants::Grant;
+use grants::grants::Reason;
+use grants::grants::station_number;
+use layout::bytes::index;
+use records::reservoirs::reservoir_at;
+use records::rights::right_at;
+use returns::numbers::wide32;
 
 // 01's number for a reason.
 fn why(reason: Reason) -> u64

@@ -3,18 +3,18 @@ ghost use mathlib.Core.Path.{_≡_};
 ghost use Rattle.rules.specs.Basin.{Basin};
 ghost use Rattle.turns.specs.Finish.{CanFinish, Finished, shortReason};
 ghost use Rattle.turns.specs.State.{Ready, Setting, Turned};
-use crate::grants::Grant;
-use crate::grants::Reason;
-use crate::grants::river_part;
-use crate::numbers::wide8;
-use crate::returning::give_returns;
-use crate::stages::demand_of;
-use crate::stages::draw;
-use crate::stages::fill;
-use crate::stages::take;
-use basin::bytes::index;
-use basin::rights::RightRecord;
-use basin::rights::right_at;
+use grants::grants::Grant;
+use grants::grants::Reason;
+use grants::grants::river_part;
+use grants::stages::demand_of;
+use grants::stages::draw;
+use grants::stages::fill;
+use grants::stages::take;
+use layout::bytes::index;
+use records::rights::RightRecord;
+use records::rights::right_at;
+use returns::numbers::wide8;
+use returns::returning::give_returns;
 
 // The reason of a short right: a project right's is its storage.
 fn short_reason(kind: u8, why: Reason) -> Reason

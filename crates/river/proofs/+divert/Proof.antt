@@ -9,10 +9,10 @@ use borrow.Fn.PlainCycle.{Measures, is, falls, and}
 use Rattle.river.proofs.divert.Reads as divert
 use Rattle.river.proofs.divert.Kinds as divert-kinds
 use Rattle.river.proofs.+divert.Lts-divert as divert-lts
-use Rattle.basin.proofs.network.next_row.Reads as next-row-reads
+use Rattle.records.proofs.network.next_row.Reads as next-row-reads
 use Rattle.river.proofs.+divert.{statement}
 use Rattle.river.proofs.+divert.Tie.{close}
-use Rattle.basin.proofs.Table.{walk-on}
+use Rattle.records.proofs.Table.{walk-on}
 use Rattle.river.proofs.Walks.{enough-self, next-divert, divert-row, divert-end}
 
 abbrev μ-divert : Measures 3 divert-kinds.ps ℕ

@@ -8,11 +8,11 @@ use borrow.Fn.PlainCycle.{Measures, is, falls, and}
 use Rattle.river.proofs.look_down.Reads as look-down
 use Rattle.river.proofs.look_down.Kinds as look-down-kinds
 use Rattle.river.proofs.+look_down.Lts-look_down as look-down-lts
-use Rattle.basin.proofs.network.next_row.Reads as next-row-reads
+use Rattle.records.proofs.network.next_row.Reads as next-row-reads
 use Rattle.river.proofs.lower.Reads as lower-reads
 use Rattle.river.proofs.+look_down.{statement}
 use Rattle.river.proofs.+look_down.Tie.{close}
-use Rattle.basin.proofs.Table.{walk-on}
+use Rattle.records.proofs.Table.{walk-on}
 use Rattle.river.specs.Arrays.{seenAs}
 use Rattle.river.proofs.Walks.{next-look, look-called, look-end, look-on}
 

@@ -9,10 +9,10 @@ use borrow.Fn.PlainCycle.{Measures, is, falls, and}
 use Rattle.river.proofs.put_back.Reads as put-back
 use Rattle.river.proofs.put_back.Kinds as put-back-kinds
 use Rattle.river.proofs.+put_back.Lts-put_back as put-back-lts
-use Rattle.basin.proofs.network.next_row.Reads as next-row-reads
+use Rattle.records.proofs.network.next_row.Reads as next-row-reads
 use Rattle.river.proofs.+put_back.{statement}
 use Rattle.river.proofs.+put_back.Tie.{close}
-use Rattle.basin.proofs.Table.{walk-on}
+use Rattle.records.proofs.Table.{walk-on}
 use Rattle.river.proofs.Walks.{room-self, next-return, return-row, return-end}
 
 abbrev μ-put-back : Measures 3 put-back-kinds.ps ℕ

@@ -10,10 +10,10 @@ use borrow.Fn.PlainCycle.{Measures, is, falls, and}
 use Rattle.river.proofs.release.Reads as release
 use Rattle.river.proofs.release.Kinds as release-kinds
 use Rattle.river.proofs.+release.Lts-release as release-lts
-use Rattle.basin.proofs.network.next_row.Reads as next-row-reads
+use Rattle.records.proofs.network.next_row.Reads as next-row-reads
 use Rattle.river.proofs.+release.{statement}
 use Rattle.river.proofs.+release.Tie.{close}
-use Rattle.basin.proofs.Table.{walk-on}
+use Rattle.records.proofs.Table.{walk-on}
 use Rattle.river.proofs.Walks.{room-self, next-release, release-row, release-end, release-stop}
 
 abbrev μ-release : Measures 2 release-kinds.ps ℕ

@@ -3,8 +3,8 @@ use Rattle.rivercalls.proofs.wrong_lengths.Statement.{statement}
 use Rattle.rivercalls.proofs.wrong_lengths.Tie as tie
 use Rattle.rivercalls.proofs.wrong_lengths.Reads as reads
 use Rattle.rivercalls.proofs.wrong_lengths.Lts as lts
-use Rattle.ledger.proofs.fresh.fresh.Reads as fresh-reads
-use Rattle.ledger.proofs.month.month.Reads as month-reads
+use Rattle.calls.proofs.fresh.fresh.Reads as fresh-reads
+use Rattle.monthrun.proofs.month.month.Reads as month-reads
 use Rattle.rivercalls.proofs.say.Reads as say-reads
 use mathlib.Core.Path.{_∙_}
 

@@ -3,14 +3,14 @@ use Rattle.riverrun.proofs.run.Statement.{statement}
 use Rattle.riverrun.proofs.run.Tie as tie
 use Rattle.riverrun.proofs.run.Reads as reads
 use Rattle.riverrun.proofs.run.Lts as lts
-use Rattle.ledger.proofs.answer.on_file.Reads as on-file-reads
+use Rattle.calls.proofs.answer.on_file.Reads as on-file-reads
 use Rattle.libc.proofs.close.Reads as close-reads
 use Rattle.os.proofs.open_read.Reads as open-read-reads
 use Rattle.riverrun.proofs.months.print_refusal.Reads as print-refusal-reads
 use Rattle.riverrun.proofs.months.run_all.Reads as run-all-reads
 use native.Mathlib.Omega.{arith}
 use denote.Ref.{now}
-use Rattle.ledger.proofs.Answers.{accepted-of}
+use Rattle.calls.proofs.Answers.{accepted-of}
 
 -- src/main.rt:25:9
 on-file-requires : tie.Need-on-file-requires

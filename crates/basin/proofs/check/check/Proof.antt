@@ -8,10 +8,11 @@ use borrow.Author.Tests.{not-true, not-false}
 use borrow.Author.Needs.{needs}
 use denote.Ref.{now}
 use Rattle.basin.specs.declared.Verdict.{Verdict}
-use Rattle.basin.specs.File.{layoutOk, sectionOf}
-use Rattle.basin.specs.Records.{rowsOf}
+use Rattle.layout.specs.File.{layoutOk, sectionOf}
+use Rattle.records.specs.Records.{rowsOf}
 use Rattle.basin.specs.Check.{bodiesVerdict, checkOf}
-use Rattle.basin.proofs.Parts.{laid, rows-counted}
+use Rattle.layout.proofs.Parts.{laid}
+use Rattle.records.proofs.Counted.{rows-counted}
 use Rattle.basin.proofs.Faults.{check-refuses, check-goes-on}
 use Rattle.basin.proofs.check.check.Statement.{statement}
 use Rattle.basin.proofs.check.check.Tie as tie

@@ -7,8 +7,8 @@ use borrow.Author.Tests.{eq-eqb, ne-eqb}
 use denote.Ref.{now}
 use Rattle.general.specs.Sums.{sum}
 use Rattle.basin.specs.declared.Verdict.the-variants.{Accepted, Pattern}
-use Rattle.basin.specs.Records.{patternCount, patternOf}
-use Rattle.basin.specs.FileRules.{patternOk}
+use Rattle.records.specs.Records.{patternCount, patternOf}
+use Rattle.filerules.specs.FileRules.{patternOk}
 use Rattle.basin.specs.Check.{patternsVerdict}
 use Rattle.basin.proofs.Faults.{verdictFrom, verdict-all, verdict-on, verdict-here, verdict-done}
 use Rattle.basin.proofs.patterns.check_patterns.Statement.{statement}

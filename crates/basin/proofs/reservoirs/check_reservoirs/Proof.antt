@@ -6,8 +6,8 @@ use borrow.Author.Needs.{needs}
 use borrow.Author.Tests.{not-true, not-false}
 use denote.Ref.{now}
 use Rattle.basin.specs.declared.Verdict.the-variants.{Accepted, Reservoir}
-use Rattle.basin.specs.Records.{reservoirCount}
-use Rattle.basin.specs.FileRules.{reservoirOk}
+use Rattle.records.specs.Records.{reservoirCount}
+use Rattle.filerules.specs.FileRules.{reservoirOk}
 use Rattle.basin.specs.Check.{reservoirsVerdict}
 use Rattle.basin.proofs.Faults.{verdictFrom, verdict-all, verdict-good, verdict-bad, verdict-done}
 use Rattle.basin.proofs.reservoirs.check_reservoirs.Statement.{statement}

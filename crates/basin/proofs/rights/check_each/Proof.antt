@@ -6,8 +6,8 @@ use borrow.Author.Needs.{needs}
 use borrow.Author.Tests.{not-true, not-false}
 use denote.Ref.{now}
 use Rattle.basin.specs.declared.Verdict.the-variants.{Accepted, Right}
-use Rattle.basin.specs.Records.{patternCount, rightCount}
-use Rattle.basin.specs.FileRules.{rightOk}
+use Rattle.records.specs.Records.{patternCount, rightCount}
+use Rattle.filerules.specs.FileRules.{rightOk}
 use Rattle.basin.specs.Check.{rightsVerdict}
 use Rattle.basin.proofs.Faults.{verdictFrom, verdict-all, verdict-good, verdict-bad, verdict-done}
 use Rattle.basin.proofs.rights.check_each.Statement.{statement}

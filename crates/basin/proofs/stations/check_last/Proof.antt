@@ -7,11 +7,11 @@ use borrow.Author.Needs.{needs}
 use denote.Ref.{now}
 use lib.Dec.{eqb}
 use Rattle.general.specs.Tests.{_and_}
-use Rattle.basin.specs.declared.stations.StationRecord.{StationRecord}
-use Rattle.basin.specs.Records.{rowsOf, stationRecord}
-use Rattle.basin.specs.FileRules.{stationPlain, stationOk}
+use Rattle.records.specs.declared.stations.StationRecord.{StationRecord}
+use Rattle.records.specs.Records.{rowsOf, stationRecord}
+use Rattle.filerules.specs.FileRules.{stationPlain, stationOk}
 use Rattle.basin.proofs.Faults.{only-good, only-bad}
-use Rattle.basin.proofs.Rows.{last-row}
+use Rattle.filerules.proofs.RowRules.{last-row}
 use Rattle.basin.proofs.stations.check_last.Statement.{statement}
 use Rattle.basin.proofs.stations.check_last.Tie as tie
 

@@ -6,11 +6,11 @@ use borrow.Author.Needs.{needs}
 use borrow.Author.Tests.{not-true, not-false}
 use denote.Ref.{now}
 use Rattle.basin.specs.declared.Verdict.the-variants.{Accepted, Station}
-use Rattle.basin.specs.Records.{rowsOf}
-use Rattle.basin.specs.FileRules.{stationOk}
+use Rattle.records.specs.Records.{rowsOf}
+use Rattle.filerules.specs.FileRules.{stationOk}
 use Rattle.basin.specs.Check.{stationsVerdict}
 use Rattle.basin.proofs.Faults.{verdictFrom, verdict-all, verdict-on, verdict-here, verdict-last}
-use Rattle.basin.proofs.Rows.{plain-fails, row-lost, row-good}
+use Rattle.filerules.proofs.RowRules.{plain-fails, row-lost, row-good}
 use Rattle.basin.proofs.stations.check_stations.Statement.{statement}
 use Rattle.basin.proofs.stations.check_stations.Tie as tie
 

@@ -5,10 +5,10 @@ use Rattle.ledger.proofs.export.river_fresh.Tie as tie
 use Rattle.ledger.proofs.export.river_fresh.Reads as reads
 use Rattle.ledger.proofs.export.river_fresh.Lts as lts
 use Rattle.ledger.proofs.export.word.Reads as word-reads
-use Rattle.ledger.proofs.fresh.fresh.Reads as fresh-reads
+use Rattle.calls.proofs.fresh.fresh.Reads as fresh-reads
 use mathlib.Core.Path.{ap, _∙_}
-use Rattle.ledger.specs.Answers.{answerWord}
-use Rattle.ledger.specs.Calls.{Fresh}
+use Rattle.calls.specs.Answers.{answerWord}
+use Rattle.boards.specs.Calls.{Fresh}
 
 -- src/export.rt:22:10
 fresh-requires : tie.Need-fresh-requires

@@ -2,7 +2,7 @@ use Rattle.riverrun.proofs.months.decode.Statement.{statement}
 use Rattle.riverrun.proofs.months.decode.Tie as tie
 use Rattle.riverrun.proofs.months.decode.Reads as reads
 use Rattle.riverrun.proofs.months.decode.Lts as lts
-use Rattle.basin.proofs.bytes.le32.Reads as le32-reads
+use Rattle.layout.proofs.bytes.le32.Reads as le32-reads
 use mathlib.Core.Path.{_≡_, refl, sym, ap, _∙_}
 use Prim.Native.Nat.{ℕ, _-_, _*_, _≤_, _<_}
 use native.Mathlib.Omega.{arith}

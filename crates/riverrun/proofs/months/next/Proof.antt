@@ -4,7 +4,7 @@ use Rattle.riverrun.proofs.months.next.Tie as tie
 use Rattle.riverrun.proofs.months.next.Reads as reads
 use Rattle.riverrun.proofs.months.next.Lts as lts
 use Rattle.io.proofs.read_full.Reads as read-full-reads
-use Rattle.ledger.proofs.month.go_on.Reads as go-on-reads
+use Rattle.monthrun.proofs.month.go_on.Reads as go-on-reads
 use Rattle.riverrun.proofs.months.decode.Reads as decode-reads
 use Rattle.riverrun.proofs.months.print_month.Reads as print-month-reads
 use Rattle.riverrun.proofs.months.print_refusal.Reads as print-refusal-reads

@@ -3,19 +3,18 @@ use Rattle.riverrun.proofs.months.run_all.Statement.{statement}
 use Rattle.riverrun.proofs.months.run_all.Tie as tie
 use Rattle.riverrun.proofs.months.run_all.Reads as reads
 use Rattle.riverrun.proofs.months.run_all.Lts as lts
-use Rattle.basin.proofs.contents.section.Reads as section-reads
+use Rattle.layout.proofs.contents.section.Reads as section-reads
 use Rattle.io.proofs.large_buffer.Reads as large-buffer-reads
-use Rattle.ledger.proofs.fresh.write_fresh.Reads as write-fresh-reads
+use Rattle.calls.proofs.fresh.write_fresh.Reads as write-fresh-reads
 use Rattle.riverrun.proofs.months.run_months.Reads as run-months-reads
 use native.Mathlib.Omega.{arith}
 use denote.Ref.{now}
-use Rattle.riverrun.proofs.Sheets.{few-rows, lent-first}
+use Rattle.riverrun.proofs.Sheets.{few-rows, lent-first, taken}
 use mathlib.Core.Path.{_≡_, refl, sym, ap, _∙_}
 use mathlib.Core.List.{List}
 use Prim.Native.Nat.{ℕ, _*_, _/_, _≤_}
 use lib.ListN.{length}
-use Rattle.basin.specs.Records.{rowsOf}
-use Rattle.riverrun.proofs.Sheets.{taken}
+use Rattle.records.specs.Records.{rowsOf}
 
 -- src/months.rt:143:9
 section-requires : tie.Need-section-requires

@@ -1,27 +1,23 @@
 use mathlib.Core.Path.{_≡_, refl, sym, ap, _∙_, subst}
 use native.Mathlib.Omega.{arith}
-use Prim.Native.Nat.{ℕ, _<_}
+use Prim.Native.Nat.{ℕ, _<_, zero, suc, _+_, _-_, _*_, _/_, _%_, _≤_, min}
 use denote.Ref.{now}
-use Rattle.basin.specs.Records.{rowsOf, stationsOf}
+use Rattle.records.specs.Records.{rowsOf, stationsOf}
 use Rattle.rules.specs.Turn.{numberAt}
-use Rattle.basin.specs.declared.reservoirs.ReservoirRecord.{ReservoirRecord}
-use Prim.Native.Nat.{ℕ, zero, suc, _+_, _-_, _*_, _/_, _%_, _≤_, _<_, min}
-use mathlib.Core.Path.{_≡_, refl, sym, ap, _∙_, subst}
+use Rattle.records.specs.declared.reservoirs.ReservoirRecord.{ReservoirRecord}
 use mathlib.Core.List.{List, [], _∷_, _++_}
 use mathlib.Core.Bool.{Bool, true, false, not, cond}
-use native.Mathlib.Omega.{arith}
 use borrow.Author.Needs.{needs}
 use borrow.Author.Tests.{lt-ltb, le-ltb, eq-eqb, ne-eqb, le-leb, lt-leb, not-true, not-false}
 use lib.ListN.{length, getD, set, drop, length-set}
-use denote.Ref.{now}
 use Rattle.turns.proofs.lines.home_number.Statement.{statement}
 use Rattle.turns.proofs.lines.home_number.Tie as tie
 use Rattle.turns.proofs.lines.home_number.Reads as reads
 use Rattle.turns.proofs.lines.home_number.Lts as lts
-use Rattle.basin.proofs.bytes.index.Reads as index-reads
-use Rattle.basin.proofs.reservoirs.reservoir_at.Reads as reservoir-at-reads
-use Rattle.turns.proofs.grants.station_number.Reads as station-number-reads
-use Rattle.turns.proofs.numbers.wide32.Reads as wide32-reads
+use Rattle.layout.proofs.bytes.index.Reads as index-reads
+use Rattle.records.proofs.reservoirs.reservoir_at.Reads as reservoir-at-reads
+use Rattle.grants.proofs.grants.station_number.Reads as station-number-reads
+use Rattle.returns.proofs.numbers.wide32.Reads as wide32-reads
 
 -- src/lines.rt:34:9
 reservoir-at-requires : tie.Need-reservoir-at-requires

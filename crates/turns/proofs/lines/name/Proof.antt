@@ -1,24 +1,20 @@
 use mathlib.Core.Path.{_≡_, refl, sym, ap, _∙_, subst}
 use native.Mathlib.Omega.{arith}
-use Prim.Native.Nat.{ℕ, _<_}
+use Prim.Native.Nat.{ℕ, _<_, zero, suc, _+_, _-_, _*_, _/_, _%_, _≤_, min}
 use denote.Ref.{now}
 use Rattle.turns.specs.State.{whyOf, namedBy}
 use Rattle.turns.specs.Lines.{homeNumber}
-use Prim.Native.Nat.{ℕ, zero, suc, _+_, _-_, _*_, _/_, _%_, _≤_, _<_, min}
-use mathlib.Core.Path.{_≡_, refl, sym, ap, _∙_, subst}
 use mathlib.Core.List.{List, [], _∷_, _++_}
 use mathlib.Core.Bool.{Bool, true, false, not, cond}
-use native.Mathlib.Omega.{arith}
 use borrow.Author.Needs.{needs}
 use borrow.Author.Tests.{lt-ltb, le-ltb, eq-eqb, ne-eqb, le-leb, lt-leb, not-true, not-false}
 use lib.ListN.{length, getD, set, drop, length-set}
-use denote.Ref.{now}
 use Rattle.turns.proofs.lines.name.Statement.{statement}
 use Rattle.turns.proofs.lines.name.Tie as tie
 use Rattle.turns.proofs.lines.name.Reads as reads
 use Rattle.turns.proofs.lines.name.Lts as lts
 use Rattle.turns.proofs.lines.home_number.Reads as home-number-reads
-use Rattle.turns.proofs.numbers.wide32.Reads as wide32-reads
+use Rattle.returns.proofs.numbers.wide32.Reads as wide32-reads
 
 -- src/lines.rt:44:24
 enum-told : tie.Need-enum-told

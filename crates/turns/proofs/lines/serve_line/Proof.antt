@@ -5,9 +5,9 @@ use denote.Ref.{now}
 use Rattle.turns.proofs.lines.serve_line.Statement.{statement}
 use Rattle.turns.proofs.lines.serve_line.Tie as tie
 use Rattle.rules.specs.Basin.{Basin}
-use Rattle.basin.specs.declared.rights.RightRecord.{RightRecord}
-use Rattle.basin.specs.Records.{rowsOf, reservoirCount, rightRecord}
-use Rattle.turns.specs.Stages.{homeRow}
+use Rattle.records.specs.declared.rights.RightRecord.{RightRecord}
+use Rattle.records.specs.Records.{rowsOf, reservoirCount, rightRecord}
+use Rattle.grants.specs.Stages.{homeRow}
 use Rattle.turns.specs.State.{stateOf, namedBy, Setting}
 use Rattle.turns.specs.Lines.{homeNumber, lineOf}
 use Rattle.turns.proofs.Facts.{place-most}

@@ -1,0 +1,78 @@
+-- The basin of a file's four bodies, and what a possible board holds there, body by body.
+use mathlib.Core.Path.{_≡_}
+use mathlib.Core.Bool.{Bool, cond}
+use mathlib.Core.List.{List, map}
+use Prim.Native.Nat.{ℕ, suc, _+_, _-_, _≤_, _<_}
+use lib.Dec.{leb, ltb, eqb}
+use lib.ListN.{length, getD}
+use Rattle.general.specs.Sums.{only}
+use Rattle.general.specs.Tables.{tab}
+use Rattle.general.specs.Tests.{allTo}
+use Rattle.rules.specs.Basin.{Reservoir, Basin, noReservoir, noRight}
+use Rattle.rules.specs.Theorems.{mostDue}
+use Rattle.records.specs.Records.{rowsOf, stationsOf, reservoirCount, reservoirsOf, patternsOf, rightCount, rightsOf}
+use Rattle.boards.specs.Board.{storageAt, takenAt, dueAt}
+
+unfoldable pub bodies : List ℕ → List ℕ → List ℕ → List ℕ → Basin
+bodies st rs ps ri = record { stations = stationsOf st; reservoirs = reservoirsOf rs; patterns = patternsOf ps; rights = rightsOf ri }
+
+-- ---- what each place may hold: 0 where there is no reservoir, right or row
+
+unfoldable pub storageMost : List ℕ → ℕ → ℕ
+storageMost rs v = (getD (reservoirsOf rs) v noReservoir) .capacity
+
+unfoldable pub takenMost : List ℕ → ℕ → ℕ
+takenMost ri i = (getD (rightsOf ri) i noRight) .limit
+
+-- in a basin of n rows
+unfoldable pub dueMost : ℕ → ℕ → ℕ → ℕ
+dueMost n w k = only (ltb w n) (mostDue (suc k))
+
+-- ---- whether each part of a board is possible
+
+unfoldable pub storagesOk : List ℕ → List ℕ → Bool
+storagesOk rs board = allTo 8 (λ v. leb (storageAt board v) (storageMost rs v))
+
+unfoldable pub takenOk : List ℕ → List ℕ → Bool
+takenOk ri board = allTo 256 (λ i. leb (takenAt board i) (takenMost ri i))
+
+-- its two parts: the rights that there are, and the places past n rights
+unfoldable pub heldOk : List ℕ → List ℕ → Bool
+heldOk ri board = allTo (rightCount ri) (λ i. leb (takenAt board i) (takenMost ri i))
+
+unfoldable pub unusedOk : ℕ → List ℕ → Bool
+unusedOk n board = allTo (256 - n) (λ j. eqb (takenAt board (n + j)) 0)
+
+unfoldable pub rowOk : ℕ → List ℕ → ℕ → Bool
+rowOk n board w = allTo 11 (λ k. leb (dueAt board w (suc k)) (dueMost n w k))
+
+unfoldable pub duesOk : ℕ → List ℕ → Bool
+duesOk n board = allTo 64 (rowOk n board)
+
+-- ---- what an accepted file gives, and with it a board of the right length
+
+pub record Counted (st rs ri : List ℕ) : Type 0 where
+  pub rows-in : rowsOf st ≤ 64
+  pub reservoirs-in : reservoirCount rs ≤ 8
+  pub rights-in : rightCount ri ≤ 256
+
+pub record Sized (st rs ri board : List ℕ) : Type 0 where
+  pub rows-in : rowsOf st ≤ 64
+  pub reservoirs-in : reservoirCount rs ≤ 8
+  pub rights-in : rightCount ri ≤ 256
+  pub board-long : length board ≡ 970
+
+-- what a possible board gives to its sums: no storage above the highest capacity that a file may have, no due above that of eleven months
+pub record Bounded (board : List ℕ) : Type 0 where
+  pub long : length board ≡ 970
+  pub storages : (v : ℕ) → v < 8 → storageAt board v ≤ 2_000_000_000
+  pub dues : (w k : ℕ) → w < 64 → k < 11 → dueAt board w (suc k) ≤ 2_816_000_000_000
+
+-- ---- the fresh board
+
+-- place p: the starting storages at 1, 2, .., else 0
+unfoldable pub startAt : List ℕ → ℕ → ℕ
+startAt rs p = cond (eqb p 0) 0 (getD (map (λ (v : Reservoir). v .start) (reservoirsOf rs)) (p - 1) 0)
+
+unfoldable pub startBoard : List ℕ → List ℕ
+startBoard rs = tab 970 (startAt rs)

@@ -1,0 +1,4 @@
+pub mod Board
+pub mod Report
+pub mod Calls
+pub mod Bodies

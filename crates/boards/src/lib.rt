@@ -1,0 +1,2 @@
+// A board of a basin: whether it is possible.
+pub mod possible;

@@ -1,0 +1,38 @@
+-- What a look down the river gives a right, in the arrays' words.
+use mathlib.Core.Bool.{Bool, true, false, cond}
+use mathlib.Core.List.{List, [], _∷_}
+use mathlib.Core.Path.{_≡_}
+use Prim.Native.Nat.{ℕ, _<_, min}
+use lib.Dec.{eqb}
+use lib.ListN.{getD}
+use Rattle.general.specs.Tests.{has}
+use Rattle.rules.specs.Turn.{numberAt}
+use Rattle.records.specs.Records.{rowsOf, stationsOf}
+use Rattle.river.specs.declared.Seen.{Seen}
+use Rattle.river.specs.declared.Seen.the-variants as seen
+use Rattle.records.specs.Table.{pathBy, OnTable}
+use Rattle.river.specs.Arrays.{seenOn}
+use Rattle.grants.specs.declared.grants.Reason.{Reason}
+use Rattle.grants.specs.declared.grants.Reason.the-variants.{Met, Called, RiverLow, StorageOut}
+use Rattle.grants.specs.declared.grants.RiverPart.{RiverPart}
+
+-- a row of the table, and a station at each row of its path
+pub record CanSee (st t : List ℕ) (row : ℕ) : Type 0 where
+  pub row-ok : OnTable t row
+  pub stationed : (q : ℕ) → has q (pathBy t row) ≡ true → q < rowsOf st
+
+-- the row that decides: the right's own for kind 3, else what is seen on its path
+abbrev pub seenBy : List ℕ → List ℕ → List Bool → ℕ → ℕ → Seen
+seenBy t a sh kind row = cond (eqb kind 3) (seen.Low row) (seenOn sh a row (pathBy t row))
+
+unfoldable pub partOf : List ℕ → ℕ → Seen → ℕ
+partOf a demand (seen.Called q) = 0
+partOf a demand (seen.Low q) = min demand (getD a q 0)
+
+unfoldable pub reasonOf : List ℕ → Seen → Reason
+reasonOf st (seen.Called q) = Called (numberAt (stationsOf st) q)
+reasonOf st (seen.Low q) = RiverLow (numberAt (stationsOf st) q)
+
+pub record RiverGave (st t a : List ℕ) (sh : List Bool) (kind row demand : ℕ) (v : RiverPart) : Type 0 where
+  pub part : v .part ≡ partOf a demand (seenBy t a sh kind row)
+  pub reason : v .part < demand → v .reason ≡ reasonOf st (seenBy t a sh kind row)

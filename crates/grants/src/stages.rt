@@ -1,0 +1,172 @@
+// The stages of a right's turn: its demand, its part from the river, its part from storage.
+ghost use mathlib.Core.Path.{_≡_};
+ghost use mathlib.Core.Bool.{not};
+ghost use Prim.Native.Nat.{_+_, _≤_, _<_, _^_, min};
+ghost use lib.ListN.{length, getD};
+ghost use Rattle.general.specs.Sums.{only};
+ghost use Rattle.records.specs.Records.{rightCount, rightRecord, kindOf};
+ghost use Rattle.grants.specs.Stages.{isStorage, amountIn, askOf, RoomLeft, askIn, CanAsk, CanTake, Taken, capacityIn, poured, CanPour, boardStored, CanFill, CanDraw, Drawn};
+use layout::bytes::index;
+use layout::bytes::le32;
+use records::reservoirs::reservoir_at;
+use records::rights::RightRecord;
+use returns::numbers::bit_of;
+use returns::numbers::lesser;
+use returns::numbers::wide_size;
+use returns::numbers::wide16;
+use returns::numbers::wide32;
+use river::divert;
+use river::release;
+
+// Whether a kind is that of a storage right.
+fn is_storage(kind: u8) -> bool
+    ensures { λ r. ⌜ r ≡ isStorage (kindOf kind) ⌝ }
+{
+    if kind == 1 {
+        return false;
+    }
+    if kind == 2 {
+        return false;
+    }
+    kind != 3
+}
+
+// The amount of month m, if that month is in use.
+fn scheduled(rights: &[u8], i: usize, right: RightRecord, m: usize) -> u64
+    requires { ⌜ (i < rightCount (now rights)) × (m < 12) × (right ≡ rightRecord (now rights) i) ⌝ }
+    ensures { λ r. ⌜ r ≡ amountIn (now (rights .entry)) i m ⌝ }
+{
+    if bit_of(wide16(right.months), wide_size(m)) {
+        return wide32(le32(rights, 76 * i + 20 + 4 * m));
+    }
+    0
+}
+
+// The least of the amount and of what yearly limit and capacity leave; nothing under a filled mark.
+fn storage_demand(amount: u64, marked: bool, limit_left: u64, capacity_left: u64) -> u64
+    ensures { λ r. ⌜ r ≡ only (not marked) (min amount (min «limit_left» «capacity_left»)) ⌝ }
+{
+    if marked {
+        return 0;
+    }
+    lesser(amount, lesser(limit_left, capacity_left))
+}
+
+// What a storage right asks for, of an amount scheduled.
+fn storage_ask(reservoirs: &[u8], i: usize, right: RightRecord, amount: u64, board: &[u64]) -> u64
+    requires { ⌜ (i < 256) × (length (now board) ≡ 970) × RoomLeft (now reservoirs) right i (now board) ⌝ }
+    ensures { λ r. ⌜ r ≡ askOf (now (reservoirs .entry)) right i amount (now (board .entry)) ⌝ }
+{
+    let v = index(right.reservoir);
+    let lake = reservoir_at(reservoirs, v);
+    let limit_left = wide32(right.limit) - board[10 + i];
+    let capacity_left = wide32(lake.capacity) - board[1 + v];
+    let marked = bit_of(board[9], wide_size(v));
+    storage_demand(amount, marked, limit_left, capacity_left)
+}
+
+// What right i asks for in month m.
+pub fn demand_of(
+    reservoirs: &[u8],
+    rights: &[u8],
+    i: usize,
+    right: RightRecord,
+    m: usize,
+    board: &[u64],
+) -> u64
+    requires { ⌜ (right ≡ rightRecord (now rights) i) × CanAsk (now reservoirs) (now rights) i m (now board) ⌝ }
+    ensures { λ r. ⌜ r ≡ askIn (kindOf (right .kind)) (now (reservoirs .entry)) (now (rights .entry)) i m (now (board .entry)) ⌝ }
+{
+    let amount = scheduled(rights, i, right, m);
+    if is_storage(right.kind) {
+        return storage_ask(reservoirs, i, right, amount, board);
+    }
+    amount
+}
+
+// The river part d leaves the river: an instream right's the available flow at its row alone, another's flow and available flow along the path. A part of nothing is no work.
+pub fn take(
+    below: &[u8; 64],
+    flow: &mut [u64; 64],
+    available: &mut [u64; 64],
+    kind: u8,
+    row: usize,
+    d: u64,
+)
+    requires { ⌜ CanTake kind (now below) row d (now flow) (now available) ⌝ }
+    ensures { λ _. ⌜ Taken kind (now (below .entry)) row d (now (flow .entry)) (now (available .entry)) (now (flow .exit)) (now (available .exit)) ⌝ }
+{
+    if d == 0 {
+        return;
+    }
+    if kind == 3 {
+        available[row] = available[row] - d;
+        return;
+    }
+    divert(below, flow, available, row, d);
+}
+
+// d more in reservoir v, and in the water that right i has taken this year. What fills the reservoir with more than nothing sets its mark.
+fn pour(reservoirs: &[u8], board: &mut [u64], v: usize, i: usize, d: u64)
+    requires { ⌜ CanPour (now reservoirs) v i d (now board) ⌝ }
+    ensures { λ _. ⌜ now (board .exit) ≡ poured (capacityIn (now (reservoirs .entry)) v) v i d (now (board .entry)) ⌝ }
+{
+    let lake = reservoir_at(reservoirs, v);
+    let held = board[1 + v] + d;
+    let taken = board[10 + i] + d;
+    board[1 + v] = held;
+    board[10 + i] = taken;
+    if d == 0 {
+        return;
+    }
+    if held != wide32(lake.capacity) {
+        return;
+    }
+    board[9] = board[9] + power(wide_size(v));
+}
+
+// A storage right stores its part; for other kinds nothing happens.
+pub fn fill(reservoirs: &[u8], board: &mut [u64], kind: u8, v: usize, i: usize, d: u64)
+    requires { ⌜ CanFill kind (now reservoirs) v i d (now board) ⌝ }
+    ensures { λ _. ⌜ now (board .exit) ≡ boardStored (kindOf kind) (capacityIn (now (reservoirs .entry)) v) v i d (now (board .entry)) ⌝ }
+{
+    if is_storage(kind) {
+        pour(reservoirs, board, v, i, d);
+    }
+}
+
+// 2 to the power v, the mark of reservoir v.
+fn power(v: u64) -> u64
+    requires { ⌜ v < 8 ⌝ }
+    ensures { λ r. ⌜ (r ≡ 2 ^ v) × (r ≤ 128) ⌝ }
+{
+    1 << v
+}
+
+// A project right takes what the river did not give from storage, as far as it lasts. Nothing taken is no work. The release raises the flow from the reservoir's row to just above the right's row.
+pub fn draw(
+    below: &[u8; 64],
+    reservoirs: &[u8],
+    flow: &mut [u64; 64],
+    board: &mut [u64],
+    kind: u8,
+    v: usize,
+    row: usize,
+    lacking: u64,
+) -> u64
+    requires { ⌜ CanDraw kind (now below) (now reservoirs) v lacking (now flow) (now board) ⌝ }
+    ensures { λ x. ⌜ Drawn kind (now (below .entry)) (now (reservoirs .entry)) v row lacking (now (flow .entry)) (now (board .entry)) (now (flow .exit)) (now (board .exit)) x ⌝ }
+{
+    if kind != 2 {
+        return 0;
+    }
+    let held = board[1 + v];
+    let x = lesser(lacking, held);
+    if x == 0 {
+        return 0;
+    }
+    board[1 + v] = held - x;
+    let lake = reservoir_at(reservoirs, v);
+    release(below, flow, index(lake.row), row, x);
+    x
+}

@@ -1,0 +1,66 @@
+-- Evaporation, reservoir after reservoir.
+use mathlib.Core.List.{List}
+use mathlib.Core.Logic.{_≢_}
+use mathlib.Core.Path.{_≡_, refl, sym, ap, _∙_, subst}
+use Prim.Native.Nat.{ℕ, suc, _+_, _-_, _≤_, _<_}
+use native.Mathlib.Omega.{arith}
+use lib.ListN.{length, getD, set, length-set}
+use lib.Seq.{getD-set-same, getD-set-other}
+use Rattle.general.proofs.Tests.{by-eqb}
+use Rattle.records.specs.Records.{reservoirCount}
+use Rattle.monthends.specs.Losses.{lossIn, CanEvaporate, Lost}
+use Rattle.turns.proofs.Lining.{by-place}
+
+module _ (rs : List ℕ) (m : ℕ) (bd rp : List ℕ) (at : ℕ) (c : CanEvaporate rs m bd rp at) where
+  pub lost-none : Lost rs m 0 bd rp at bd rp
+  lost-none = record {
+    storages = λ v h. absurd (omega (arith, h));
+    told = λ v h. absurd (omega (arith, h));
+    kept-front = refl;
+    kept = λ p h. refl;
+    report-front = λ p h. refl;
+    report-kept = λ p h. refl;
+    size = refl;
+    report-size = refl;
+  }
+
+  module _ (k : ℕ) (hk : k < reservoirCount rs) (bd′ rp′ : List ℕ) (l : Lost rs m k bd rp at bd′ rp′) (x : ℕ) (e : x ≡ lossIn rs m k (getD bd′ (1 + k) 0)) where
+    abbrev bd″ : List ℕ
+    bd″ = set bd′ (1 + k) (getD bd′ (1 + k) 0 - x)
+
+    abbrev rp″ : List ℕ
+    rp″ = set rp′ (at + k) x
+
+    held : getD bd′ (1 + k) 0 ≡ getD bd (1 + k) 0
+    held = l .kept (1 + k) (omega arith)
+
+    lost : x ≡ lossIn rs m k (getD bd (1 + k) 0)
+    lost = e ∙ ap (lossIn rs m k) held
+
+    storage-here : getD bd″ (1 + k) 0 ≡ getD bd (1 + k) 0 - lossIn rs m k (getD bd (1 + k) 0)
+    storage-here = getD-set-same bd′ (1 + k) (getD bd′ (1 + k) 0 - x) 0 (omega (arith, hk, c .few, c .size, l .size)) ∙ ap (λ (y : ℕ). y - x) held ∙ ap (λ (y : ℕ). getD bd (1 + k) 0 - y) lost
+
+    told-here : getD rp″ (at + k) 0 ≡ lossIn rs m k (getD bd (1 + k) 0)
+    told-here = getD-set-same rp′ (at + k) x 0 (omega (arith, hk, c .places, l .report-size)) ∙ lost
+
+    earlier : (v : ℕ) → v < suc k → v ≢ k → v < k
+    earlier v h n = by-place v k (v < k) (λ o. o) (λ o. absurd (n (omega (arith, o, h))))
+
+    step : Lost rs m (suc k) bd rp at bd″ rp″
+    step = record {
+      storages = λ v h. by-eqb v k (λ _. getD bd″ (1 + v) 0 ≡ getD bd (1 + v) 0 - lossIn rs m v (getD bd (1 + v) 0))
+          (λ q. subst (λ (u : ℕ). getD bd″ (1 + u) 0 ≡ getD bd (1 + u) 0 - lossIn rs m u (getD bd (1 + u) 0)) (sym q) storage-here)
+          (λ q. getD-set-other bd′ (1 + k) (1 + v) (getD bd′ (1 + k) 0 - x) 0 (λ z. omega (arith, z, earlier v h q)) ∙ l .storages v (earlier v h q));
+      told = λ v h. by-eqb v k (λ _. getD rp″ (at + v) 0 ≡ lossIn rs m v (getD bd (1 + v) 0))
+          (λ q. subst (λ (u : ℕ). getD rp″ (at + u) 0 ≡ lossIn rs m u (getD bd (1 + u) 0)) (sym q) told-here)
+          (λ q. getD-set-other rp′ (at + k) (at + v) x 0 (λ z. omega (arith, z, earlier v h q)) ∙ l .told v (earlier v h q));
+      kept-front = getD-set-other bd′ (1 + k) 0 (getD bd′ (1 + k) 0 - x) 0 (λ z. omega (arith, z)) ∙ l .kept-front;
+      kept = λ p h. getD-set-other bd′ (1 + k) p (getD bd′ (1 + k) 0 - x) 0 (λ z. omega (arith, z, h)) ∙ l .kept p (omega (arith, h));
+      report-front = λ p h. getD-set-other rp′ (at + k) p x 0 (λ z. omega (arith, z, h)) ∙ l .report-front p h;
+      report-kept = λ p h. getD-set-other rp′ (at + k) p x 0 (λ z. omega (arith, z, h)) ∙ l .report-kept p (omega (arith, h));
+      size = length-set bd′ (1 + k) (getD bd′ (1 + k) 0 - x) ∙ l .size;
+      report-size = length-set rp′ (at + k) x ∙ l .report-size;
+    }
+
+    pub lost-more : Lost rs m (k + 1) bd rp at bd″ rp″
+    lost-more = subst (λ (n : ℕ). Lost rs m n bd rp at bd″ rp″) (omega arith) step

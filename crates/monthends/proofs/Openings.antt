@@ -1,0 +1,458 @@
+-- The river before the first right: row after row sends on what has come down to it, and what is gathered is the rules' opening.
+use mathlib.Core.Bool.{Bool, true, false, cond}
+use mathlib.Core.Logic.{_≢_}
+use mathlib.Core.Option.{none, some}
+use mathlib.Core.List.{List}
+use mathlib.Core.Path.{_≡_, refl, sym, ap, _∙_, subst}
+use Prim.Native.Nat.{ℕ, zero, suc, _+_, _-_, _*_, _%_, _≤_, _<_}
+use native.Mathlib.Decide.{decLt}
+use native.Mathlib.Omega.{arith}
+use borrow.Author.Tests.{lt-leb}
+use lib.Dec.{leb, ltb, eqb}
+use lib.ListN.{length, getD, set, length-set}
+use lib.Seq.{getD-set-same, getD-set-other}
+use lib.IntN.{ℤ, pos}
+use Rattle.general.specs.Sums.{sumTo, only}
+use Rattle.general.specs.Tables.{tab}
+use Rattle.general.specs.Tests.{has}
+use Rattle.general.proofs.Sums.{sumTo-same, sumTo-add, sumTo-zero, sumTo-one}
+use Rattle.general.proofs.Tables.{tab-length, tab-at, tab-same, tab-of}
+use Rattle.general.proofs.Tests.{eqb-other, by-eqb, eq-of, not-lt-of, leb-yes, ltb-yes, ltb-no}
+use Rattle.rules.specs.Basin.{Basin, rows}
+use Rattle.rules.specs.Path.{path}
+use Rattle.rules.specs.Month.{gathered, openingLevels}
+use Rattle.records.specs.declared.network.Below.the-variants.{Row, Nothing}
+use Rattle.records.specs.Network.{belowOf}
+use Rattle.records.specs.Table.{stepOf, pathBy, OnTable}
+use Rattle.records.proofs.Rows.{to-row, to-none}
+use Rattle.records.proofs.Table.{next-is, next-none, by-row, by-self, on-end, on-below}
+use Rattle.river.specs.Arrays.{levelsOf, level}
+use Rattle.river.proofs.Table.{by-off}
+use Rattle.returns.specs.Returning.{dueIn, RiverOk}
+use Rattle.turns.specs.State.{Setting}
+use Rattle.monthends.specs.Opening.{mostInflow, inflow, sentTo, CanSend, Sent, CanGather, Gathered, openedAt, openedBoard, clearedAt, movedAt, endedAt}
+use Rattle.turns.proofs.Facts.{path-is}
+
+sent-none : (t runoff bd : List ℕ) (i : ℕ) → sentTo t runoff bd 0 i ≡ 0
+unfolding sentTo sumTo
+sent-none t runoff bd i = refl
+
+sent-more : (t runoff bd : List ℕ) (k i : ℕ) → sentTo t runoff bd (suc k) i ≡ sentTo t runoff bd k i + only (has i (pathBy t k)) (inflow runoff bd k)
+unfolding sentTo sumTo
+sent-more t runoff bd k i = refl
+
+only-most : (x : Bool) (d : ℕ) → only x d ≤ d
+only-most true d = omega arith
+only-most false d = omega arith
+
+-- no row is sent more than all rows' inflow
+sent-most : (t runoff bd : List ℕ) → ((j : ℕ) → inflow runoff bd j ≤ mostInflow) → (k i : ℕ) → sentTo t runoff bd k i ≤ k * mostInflow
+sent-most t runoff bd h zero i = omega (arith, sent-none t runoff bd i)
+sent-most t runoff bd h (suc k) i = omega (arith, sent-more t runoff bd k i, sent-most t runoff bd h k i, only-most (has i (pathBy t k)) (inflow runoff bd k), h k)
+
+only-zero : (s : Bool) → only s 0 ≡ 0
+only-zero true = refl
+only-zero false = refl
+
+only-sum : (s : Bool) (x y : ℕ) → only s (x + y) ≡ only s x + only s y
+only-sum true x y = refl
+only-sum false x y = refl
+
+-- a number of a sum is no more than the sum
+at-most-sum : (n : ℕ) (g : ℕ → ℕ) (j : ℕ) → j < n → g j ≤ sumTo n g
+unfolding sumTo
+at-most-sum zero g j h = absurd (omega arith)
+at-most-sum (suc n) g j h = by-eqb j n (λ _. g j ≤ sumTo n g + g n) (λ e. omega (arith, ap g e)) (λ e. omega (arith, at-most-sum n g j (omega (arith, e, h))))
+
+-- ---- one row's step
+
+row-next : (t : List ℕ) (r q : ℕ) → belowOf (stepOf t r) ≡ Row q → getD t r 0 ≡ q
+unfolding stepOf
+row-next t r q b = go (ltb (getD t r 0) 64) (to-row (stepOf t r) q b)
+  where
+    go : (s : Bool) → cond s (some (getD t r 0)) none ≡ some q → getD t r 0 ≡ q
+    go true e = cc
+    go false e = absurd (let z : _≡_ {A = ℕ} 0 1 = cc in omega arith)
+
+row-last : (t : List ℕ) (r : ℕ) → belowOf (stepOf t r) ≡ Nothing → 64 ≤ getD t r 0
+unfolding stepOf
+row-last t r b = go (ltb (getD t r 0) 64) refl (to-none (stepOf t r) b)
+  where
+    go : (s : Bool) → ltb (getD t r 0) 64 ≡ s → cond s (some (getD t r 0)) none ≡ none → 64 ≤ getD t r 0
+    go true f e = absurd (let z : _≡_ {A = ℕ} 0 1 = cc in omega arith)
+    go false f e = not-lt-of f
+
+module _ (t f a : List ℕ) (row d : ℕ) (c : CanSend t row d f a) (x : ℕ) (e : x ≡ getD f row 0 + d) where
+  pub sent-last : belowOf (stepOf t row) ≡ Nothing → Sent t row d f a (set f row x) (set a row x)
+  sent-last b = record {
+    here = getD-set-same f row x 0 (omega (arith, c .row-ok .on, c .places)) ∙ e;
+    here₂ = getD-set-same a row x 0 (omega (arith, c .row-ok .on, c .places₂)) ∙ e;
+    other = λ i h n.
+        let z : eqb (getD t row 0) i ≡ false = eqb-other (getD t row 0) i (λ g. omega (arith, g, h, row-last t row b)) in
+        getD-set-other f row i x 0 n ∙ rw z (omega arith);
+    other₂ = λ i n. getD-set-other a row i x 0 n;
+    size = length-set f row x;
+    size₂ = length-set a row x;
+  }
+
+  module _ (q : ℕ) (b : belowOf (stepOf t row) ≡ Row q) where
+    further : (row < q) × (q < 64)
+    further = let w = by-row t (c .row-ok .downhill) row q (c .row-ok .on) b in (w .1, w .2)
+
+    -- the row below, still without what is sent
+    pub next-still : getD (set f row x) q 0 ≡ getD f q 0
+    next-still = getD-set-other f row q x 0 (λ g. omega (arith, g, further .0))
+
+    pub sent-on : (y : ℕ) → y ≡ getD f q 0 + x → Sent t row d f a (set (set f row x) q y) (set a row x)
+    sent-on y ey = record {
+      here = getD-set-other (set f row x) q row y 0 (λ g. omega (arith, g, further .0)) ∙ getD-set-same f row x 0 (omega (arith, c .row-ok .on, c .places)) ∙ e;
+      here₂ = getD-set-same a row x 0 (omega (arith, c .row-ok .on, c .places₂)) ∙ e;
+      other = λ i h n. by-eqb (getD t row 0) i (λ s. getD (set (set f row x) q y) i 0 ≡ getD f i 0 + only s (getD f row 0 + d))
+          (λ g.
+          let z : i ≡ q = sym g ∙ row-next t row q b in
+          rw z (getD-set-same (set f row x) q y 0 (omega (arith, length-set f row x, further .1, c .places)) ∙ ey ∙ ap (λ (v : ℕ). getD f q 0 + v) e))
+          (λ g. getD-set-other (set f row x) q i y 0 (λ z. g (row-next t row q b ∙ sym z)) ∙ getD-set-other f row i x 0 n ∙ omega arith);
+      other₂ = λ i n. getD-set-other a row i x 0 n;
+      size = length-set (set f row x) q y ∙ length-set f row x;
+      size₂ = length-set a row x;
+    }
+
+-- ---- all rows
+
+-- what row i will have of what stands at row r, k rows being done
+abbrev waiting : List ℕ → List ℕ → ℕ → ℕ → ℕ → ℕ
+waiting t f k i r = only (has i (pathBy t r)) (only (leb k r) (getD f r 0))
+
+-- the first k rows have all that is theirs; what the first k rows send to a later row stands at later rows on the way there
+pub record Gathering (t runoff bd : List ℕ) (k : ℕ) (f a : List ℕ) : Type 0 where
+  pub done : (i : ℕ) → i < k → getD f i 0 ≡ sentTo t runoff bd k i
+  pub done₂ : (i : ℕ) → i < k → getD a i 0 ≡ sentTo t runoff bd k i
+  pub coming : (i : ℕ) → k ≤ i → i < 64 → sumTo 64 (waiting t f k i) ≡ sentTo t runoff bd k i
+  pub beyond : (i : ℕ) → length runoff ≤ i → i < 64 → getD f i 0 ≡ 0
+  pub beyond₂ : (i : ℕ) → k ≤ i → getD a i 0 ≡ 0
+  pub places : 64 ≤ length f
+  pub places₂ : 64 ≤ length a
+
+module _ (t runoff bd f₀ a₀ : List ℕ) (c : CanGather t runoff bd f₀ a₀) where
+  pub gathering-none : Gathering t runoff bd 0 f₀ a₀
+  gathering-none = record {
+    done = λ i h. absurd (omega arith);
+    done₂ = λ i h. absurd (omega arith);
+    coming = λ i h l.
+        sumTo-same 64 (waiting t f₀ 0 i) (λ r. 0) (λ r _. ap (λ (x : ℕ). only (has i (pathBy t r)) (only (leb 0 r) x)) (c .empty r) ∙ ap (only (has i (pathBy t r))) (only-zero (leb 0 r)) ∙ only-zero (has i (pathBy t r)))
+        ∙ sumTo-zero 64
+        ∙ sym (sent-none t runoff bd i);
+    beyond = λ i h l. c .empty i;
+    beyond₂ = λ i h. c .empty₂ i;
+    places = c .places;
+    places₂ = c .places₂;
+  }
+
+  -- the step of row k
+  module _ (k : ℕ) (hk : k < length runoff) (f a : List ℕ) (g : Gathering t runoff bd k f a) where
+    low : k < 64
+    low = omega (arith, c .sheet)
+
+    on : OnTable t k
+    on = record { downhill = c .downhill; on = low }
+
+    -- all that is the row's has come
+    come : getD f k 0 ≡ sentTo t runoff bd k k
+    come = sym (sumTo-one 64 k (getD f k 0) low) ∙ sym (sumTo-same 64 (waiting t f k k) (λ r. only (eqb k r) (getD f k 0)) each) ∙ g .coming k (omega arith) low
+      where
+        off : (r : ℕ) → r < 64 → k ≢ r → Dec (r < k) → waiting t f k k r ≡ 0
+        off r h n (yes l) = ap (λ (s : Bool). only (has k (pathBy t r)) (only s (getD f r 0))) (lt-leb k r l) ∙ only-zero (has k (pathBy t r))
+        off r h n (no l) = ap (λ (s : Bool). only s (only (leb k r) (getD f r 0))) (by-off t (c .downhill) k r h (omega (arith, n, l)))
+
+        each : (r : ℕ) → r < 64 → waiting t f k k r ≡ only (eqb k r) (getD f k 0)
+        each r h = by-eqb k r (λ s. waiting t f k k r ≡ only s (getD f k 0))
+            (λ e. rw (← e) (ap (λ (s : Bool). only s (only (leb k k) (getD f k 0))) (by-self t (c .downhill) k low) ∙ ap (λ (s : Bool). only s (getD f k 0)) (leb-yes k k (omega arith))))
+            (λ n. off r h n (decLt r k))
+
+    flow-small : (i : ℕ) → i < 64 → Dec (i < k) → getD f i 0 ≤ 64 * mostInflow
+    flow-small i h (yes l) = omega (arith, g .done i l, sent-most t runoff bd (c .small) k i, low)
+    flow-small i h (no l) =
+        let e : waiting t f k i i ≡ getD f i 0 = ap (λ (s : Bool). only s (only (leb k i) (getD f i 0))) (by-self t (c .downhill) i h) ∙ ap (λ (s : Bool). only s (getD f i 0)) (leb-yes k i (omega arith)) in
+        omega (arith, e, at-most-sum 64 (waiting t f k i) i h, g .coming i (omega arith) h, sent-most t runoff bd (c .small) k i, low)
+
+    module _ (d : ℕ) (e : d ≡ inflow runoff bd k) where
+      pub can-send : CanSend t k d f a
+      can-send = record {
+        row-ok = on;
+        places = g .places;
+        places₂ = g .places₂;
+        small = λ i h. flow-small i h (decLt i k);
+        more = omega (arith, e, c .small k);
+      }
+
+      abbrev x : ℕ
+      x = getD f k 0 + d
+
+      abbrev q : ℕ
+      q = getD t k 0
+
+      -- the row below is a later one
+      later : (r : ℕ) → r ≤ k → eqb q r ≡ false
+      later r h = eqb-other q r (λ z. go z (decLt q 64))
+        where
+          go : q ≡ r → Dec (q < 64) → ⊥
+          go z (yes l) = omega (arith, z, h, c .downhill .later k low l)
+          go z (no l) = omega (arith, z, h, low)
+
+      sent : (i : ℕ) → sentTo t runoff bd (suc k) i ≡ sentTo t runoff bd k i + only (has i (pathBy t k)) d
+      sent i = sent-more t runoff bd k i ∙ ap (λ (v : ℕ). sentTo t runoff bd k i + only (has i (pathBy t k)) v) (sym e)
+
+      -- where the row below is on the way to row i, so is the row
+      on-way : (i : ℕ) → i ≢ k → q < 64 → has i (pathBy t k) ≡ has i (pathBy t q)
+      on-way i n l = on-below t k i on q (sym (next-is t k q refl l)) n
+
+      passed-on : (i : ℕ) → i ≢ k → Dec (q < 64) → sumTo 64 (λ r. only (eqb q r) (only (has i (pathBy t k)) x)) ≡ only (has i (pathBy t k)) x
+      passed-on i n (yes l) = sumTo-one 64 q (only (has i (pathBy t k)) x) l
+      passed-on i n (no l) =
+          let z : has i (pathBy t k) ≡ false = on-end t k i on (sym (next-none t k q refl (omega arith))) n in
+          rw z (sumTo-same 64 (λ r. only (eqb q r) 0) (λ r. 0) (λ r _. only-zero (eqb q r)) ∙ sumTo-zero 64)
+
+      module _ (f′ a′ : List ℕ) (z : Sent t k d f a f′ a′) where
+        moved : (i : ℕ) → k < i → (r : ℕ) → r < 64
+            → waiting t f′ (suc k) i r + only (eqb k r) (only (has i (pathBy t k)) (getD f k 0)) ≡ waiting t f k i r + only (eqb q r) (only (has i (pathBy t k)) x)
+        moved i h r l = by-eqb k r (λ s. waiting t f′ (suc k) i r + only s (only (has i (pathBy t k)) (getD f k 0)) ≡ waiting t f k i r + only (eqb q r) (only (has i (pathBy t k)) x))
+            (λ w. rw (← w, later k (omega arith), lt-leb (suc k) k (omega arith), leb-yes k k (omega arith)) (omega (arith, only-zero (has i (pathBy t k)))))
+            (λ w. side w (decLt r k))
+          where
+            below : (s : Bool) (u v : ℕ) → (s ≡ true → has i (pathBy t r) ≡ has i (pathBy t k)) → v ≡ u + only s x → only (has i (pathBy t r)) v + 0 ≡ only (has i (pathBy t r)) u + only s (only (has i (pathBy t k)) x)
+            below true u v w m = rw (m, ← (w refl)) (omega (arith, only-sum (has i (pathBy t r)) u x))
+            below false u v w m = let m₂ : v ≡ u = omega (arith, m) in rw m₂ refl
+
+            side : k ≢ r → Dec (r < k) → waiting t f′ (suc k) i r + 0 ≡ waiting t f k i r + only (eqb q r) (only (has i (pathBy t k)) x)
+            side w (yes m) = rw (later r (omega arith), lt-leb (suc k) r (omega arith), lt-leb k r m) refl
+            side w (no m) = rw (leb-yes (suc k) r (omega (arith, w, m)), leb-yes k r (omega (arith, m)))
+                (below (eqb q r) (getD f r 0) (getD f′ r 0) (λ y. let v : q ≡ r = eq-of y in sym (ap (λ (p : ℕ). has i (pathBy t p)) v) ∙ sym (on-way i (λ u. omega (arith, u, h)) (omega (arith, v, l)))) (z .other r l (λ u. w (sym u))))
+
+        coming-more : (i : ℕ) → k < i → i < 64 → sumTo 64 (waiting t f′ (suc k) i) ≡ sentTo t runoff bd (suc k) i
+        coming-more i h l =
+            let n : i ≢ k = λ u. omega (arith, u, h) in
+            let s₁ = sumTo-add 64 (waiting t f′ (suc k) i) (λ r. only (eqb k r) (only (has i (pathBy t k)) (getD f k 0))) in
+            let s₂ = sumTo-add 64 (waiting t f k i) (λ r. only (eqb q r) (only (has i (pathBy t k)) x)) in
+            let s₃ = sumTo-same 64 (λ r. waiting t f′ (suc k) i r + only (eqb k r) (only (has i (pathBy t k)) (getD f k 0))) (λ r. waiting t f k i r + only (eqb q r) (only (has i (pathBy t k)) x)) (moved i h) in
+            omega (arith, s₁, s₂, s₃, sumTo-one 64 k (only (has i (pathBy t k)) (getD f k 0)) low, passed-on i n (decLt q 64), only-sum (has i (pathBy t k)) (getD f k 0) d, sent i, g .coming i (omega arith) l)
+
+        -- the row's own, and that of the rows before it
+        own : getD f k 0 + d ≡ sentTo t runoff bd (suc k) k
+        own = let y : only (has k (pathBy t k)) d ≡ d = ap (λ (s : Bool). only s d) (by-self t (c .downhill) k low) in omega (arith, y, come, sent k)
+
+        past : (i : ℕ) → i < k → sentTo t runoff bd k i ≡ sentTo t runoff bd (suc k) i
+        past i h = let y : only (has i (pathBy t k)) d ≡ 0 = ap (λ (s : Bool). only s d) (by-off t (c .downhill) i k low h) in omega (arith, y, sent i)
+
+        kept : (i : ℕ) → i < 64 → i ≢ k → eqb q i ≡ false → getD f′ i 0 ≡ getD f i 0
+        kept i h n y = z .other i h n ∙ rw y (omega arith)
+
+        done-more : (i : ℕ) → i < suc k → getD f′ i 0 ≡ sentTo t runoff bd (suc k) i
+        done-more i h = by-eqb i k (λ _. getD f′ i 0 ≡ sentTo t runoff bd (suc k) i)
+            (λ y. rw y (z .here ∙ own))
+            (λ y. kept i (omega (arith, h, low)) y (later i (omega arith)) ∙ g .done i (omega (arith, y, h)) ∙ past i (omega (arith, y, h)))
+
+        done-more₂ : (i : ℕ) → i < suc k → getD a′ i 0 ≡ sentTo t runoff bd (suc k) i
+        done-more₂ i h = by-eqb i k (λ _. getD a′ i 0 ≡ sentTo t runoff bd (suc k) i)
+            (λ y. rw y (z .here₂ ∙ own))
+            (λ y. z .other₂ i y ∙ g .done₂ i (omega (arith, y, h)) ∙ past i (omega (arith, y, h)))
+
+        -- no row past the sheet is a row below
+        not-past : (i : ℕ) → length runoff ≤ i → i < 64 → eqb q i ≡ false
+        not-past i h l = eqb-other q i (λ y.
+            let m : q < 64 = omega (arith, y, l) in
+            let n : q ≢ k = λ u. absurd (omega (arith, u, y, h, hk)) in
+            let w = c .within k q hk (on-way q n m ∙ by-self t (c .downhill) q m) in
+            omega (arith, w, y, h))
+
+        step : Gathering t runoff bd (suc k) f′ a′
+        step = record {
+          done = done-more;
+          done₂ = done-more₂;
+          coming = λ i h l. coming-more i (omega arith) l;
+          beyond = λ i h l. kept i l (λ u. omega (arith, u, h, hk)) (not-past i h l) ∙ g .beyond i h l;
+          beyond₂ = λ i h. z .other₂ i (λ u. omega (arith, u, h)) ∙ g .beyond₂ i (omega arith);
+          places = omega (arith, g .places, z .size);
+          places₂ = omega (arith, g .places₂, z .size₂);
+        }
+
+        pub gathering-more : Gathering t runoff bd (k + 1) f′ a′
+        gathering-more = subst (λ (n : ℕ). Gathering t runoff bd n f′ a′) (omega arith) step
+
+  -- past the sheet nothing is sent
+  sent-past : (i : ℕ) → length runoff ≤ i → sentTo t runoff bd (length runoff) i ≡ 0
+  unfolding sentTo
+  sent-past i h = sumTo-same (length runoff) (λ j. only (has i (pathBy t j)) (inflow runoff bd j)) (λ j. 0) (λ j l. off j l (has i (pathBy t j)) refl) ∙ sumTo-zero (length runoff)
+    where
+      off : (j : ℕ) → j < length runoff → (s : Bool) → has i (pathBy t j) ≡ s → only s (inflow runoff bd j) ≡ 0
+      off j l true e = absurd (omega (arith, c .within j i l e, h))
+      off j l false e = refl
+
+  pub gathered-all : (f a : List ℕ) → Gathering t runoff bd (length runoff) f a → Gathered t runoff bd (length runoff) f a
+  gathered-all f a g = record {
+    flow = λ i h. at i (decLt i (length runoff)) f (g .done i) (λ l. g .beyond i l h);
+    available = λ i h. at i (decLt i (length runoff)) a (g .done₂ i) (g .beyond₂ i);
+    places = g .places;
+    places₂ = g .places₂;
+  }
+    where
+      at : (i : ℕ) → Dec (i < length runoff) → (l : List ℕ) → (i < length runoff → getD l i 0 ≡ sentTo t runoff bd (length runoff) i) → (length runoff ≤ i → getD l i 0 ≡ 0) → getD l i 0 ≡ sentTo t runoff bd (length runoff) i
+      at i (yes h) l m n = m h
+      at i (no h) l m n = n (omega arith) ∙ sym (sent-past i (omega arith))
+
+  -- what is gathered leaves room for every turn of the month
+  pub gathered-river : (f a : List ℕ) → Gathered t runoff bd (length runoff) f a → RiverOk t f a 1000000000000000000
+  gathered-river f a g = record {
+    downhill = c .downhill;
+    places = g .places;
+    places₂ = g .places₂;
+    room = λ i h. omega (arith, g .flow i h, sent-most t runoff bd (c .small) (length runoff) i, c .sheet);
+    within = λ i h. omega (arith, g .flow i h, g .available i h);
+  }
+
+-- ---- the rules' opening
+
+module _ (b : Basin) (st t rs : List ℕ) (pa : List (List ℕ)) (ri : List ℕ) (w : Setting b st t rs pa ri) (runoff bd : List ℕ) (sheet : length runoff ≡ rows b) where
+  sent-gathered : (i : ℕ) → i < rows b → sentTo t runoff bd (length runoff) i ≡ gathered b runoff (tab (rows b) (λ u. dueIn bd u 0)) i
+  unfolding sentTo gathered
+  sent-gathered i h =
+      ap (λ (n : ℕ). sumTo n (λ j. only (has i (pathBy t j)) (inflow runoff bd j))) sheet
+      ∙ sumTo-same (rows b) (λ j. only (has i (pathBy t j)) (inflow runoff bd j)) (λ j. only (has i (path (b .stations) j)) (getD runoff j 0 + getD (tab (rows b) (λ u. dueIn bd u 0)) j 0))
+      (λ j o.
+      ap (λ (p : List ℕ). only (has i p) (inflow runoff bd j)) (path-is b st t rs pa ri w j o)
+      ∙ ap (λ (x : ℕ). only (has i (path (b .stations) j)) (getD runoff j 0 + x)) (ap (λ (q : ℕ). getD bd q 0) (omega arith) ∙ sym (tab-at (λ u. dueIn bd u 0) (rows b) j 0 o)))
+
+  pub opening-is : (f a : List ℕ) → Gathered t runoff bd (length runoff) f a → levelsOf (rows b) f a ≡ openingLevels b runoff (tab (rows b) (λ u. dueIn bd u 0))
+  unfolding levelsOf openingLevels
+  opening-is f a g = tab-same (rows b) _ _
+      (λ i h.
+      let o : i < 64 = omega (arith, h, w .accepted .few-rows) in
+      ap (λ (x : ℕ). level x (getD a i 0)) (g .flow i o ∙ sent-gathered i h) ∙ ap (λ (x : ℕ). level (gathered b runoff (tab (rows b) (λ u. dueIn bd u 0)) i) x) (g .available i o ∙ sent-gathered i h))
+
+-- ---- the board as a month opens
+
+pub opened-length : (bd : List ℕ) (october : Bool) → length (openedBoard bd october) ≡ 970
+unfolding openedBoard
+opened-length bd october = tab-length (openedAt bd october) 970
+
+pub opened-place : (bd : List ℕ) (october : Bool) (p : ℕ) → p < 970 → getD (openedBoard bd october) p 0 ≡ openedAt bd october p
+unfolding openedBoard
+opened-place bd october p h = tab-at (openedAt bd october) 970 p 0 h
+
+-- ---- a loop over the board that has passed k places: they are f's, the others are bd's still
+
+pub record Passed (f : ℕ → ℕ) (bd x : List ℕ) (k : ℕ) : Type 0 where
+  pub long : length x ≡ 970
+  pub done : (j : ℕ) → j < k → getD x j 0 ≡ f j
+  pub rest : (j : ℕ) → k ≤ j → getD x j 0 ≡ getD bd j 0
+
+module _ (f : ℕ → ℕ) (bd : List ℕ) where
+  pub passed-from : (k : ℕ) → length bd ≡ 970 → ((j : ℕ) → j < k → getD bd j 0 ≡ f j) → Passed f bd bd k
+  passed-from k e h = record { long = e; done = h; rest = λ j l. refl }
+
+  -- a store at q, where all places between are f's already
+  pub passed-to : (x : List ℕ) (k q v : ℕ) → k ≤ q → q < 970 → v ≡ f q → ((j : ℕ) → k ≤ j → j < q → getD bd j 0 ≡ f j) → Passed f bd x k → Passed f bd (set x q v) (q + 1)
+  passed-to x k q v a b e h w = record {
+    long = length-set x q v ∙ w .long;
+    done = λ j m. by-eqb j q (λ _. getD (set x q v) j 0 ≡ f j)
+        (λ z. rw z (getD-set-same x q v 0 (omega (arith, w .long)) ∙ e))
+        (λ z. getD-set-other x q j v 0 z ∙ before j (omega (arith, z, m)) (decLt j k));
+    rest = λ j m. getD-set-other x q j v 0 (λ z. omega (arith, z, m)) ∙ w .rest j (omega arith);
+  }
+    where
+      before : (j : ℕ) → j < q → Dec (j < k) → getD x j 0 ≡ f j
+      before j l (yes m) = w .done j m
+      before j l (no m) = w .rest j (omega arith) ∙ h j (omega arith) l
+
+  pub passed-all : (x : List ℕ) (k : ℕ) → Passed f bd x k → ((j : ℕ) → k ≤ j → j < 970 → getD bd j 0 ≡ f j) → x ≡ tab 970 f
+  passed-all x k w h = sym (tab-of x 0 970 f (w .long) (λ j l. sym (at j l (decLt j k))))
+    where
+      at : (j : ℕ) → j < 970 → Dec (j < k) → getD x j 0 ≡ f j
+      at j l (yes m) = w .done j m
+      at j l (no m) = w .rest j (omega arith) ∙ h j (omega arith) l
+
+-- ---- each step, place by place
+
+module _ (bd : List ℕ) (october : Bool) (p : ℕ) where
+  pub cleared-before : p < 9 → getD bd p 0 ≡ clearedAt bd october p
+  unfolding clearedAt
+  cleared-before h = rw (ltb-yes p 9 h)
+
+  pub cleared-after : 266 ≤ p → getD bd p 0 ≡ clearedAt bd october p
+  unfolding clearedAt
+  cleared-after h = rw (ltb-no p 9 (omega arith), ltb-no p 266 h)
+
+pub cleared-here : (bd : List ℕ) (p : ℕ) → 9 ≤ p → p < 266 → 0 ≡ clearedAt bd true p
+unfolding clearedAt
+cleared-here bd p h k = rw (ltb-no p 9 h, ltb-yes p 266 k)
+
+-- no place changes but in October
+pub cleared-none : (bd : List ℕ) → length bd ≡ 970 → bd ≡ tab 970 (clearedAt bd false)
+unfolding clearedAt
+cleared-none bd e = sym (tab-of bd 0 970 (clearedAt bd false) e (λ p h. same (ltb p 9) (ltb p 266) (getD bd p 0)))
+  where
+    same : (s t : Bool) (x : ℕ) → cond s x (cond t x x) ≡ x
+    same true t x = refl
+    same false true x = refl
+    same false false x = refl
+
+module _ (bd : List ℕ) (p : ℕ) where
+  pub moved-before : p < 266 → getD bd p 0 ≡ movedAt bd p
+  unfolding movedAt
+  moved-before h = rw (ltb-yes p 266 h)
+
+  pub moved-here : 266 ≤ p → p < 969 → getD bd (p + 1) 0 ≡ movedAt bd p
+  unfolding movedAt
+  moved-here h k = rw (ltb-no p 266 h, ltb-yes p 969 k)
+
+  pub moved-after : 969 ≤ p → getD bd p 0 ≡ movedAt bd p
+  unfolding movedAt
+  moved-after h = rw (ltb-no p 266 (omega arith), ltb-no p 969 h)
+
+  pub ended-before : p < 266 → getD bd p 0 ≡ endedAt bd p
+  unfolding endedAt
+  ended-before h = rw (ltb-yes p 266 h)
+
+  pub ended-here : 266 ≤ p → (p - 266) % 11 ≡ 10 → 0 ≡ endedAt bd p
+  unfolding endedAt
+  ended-here h e = rw (ltb-no p 266 h, e)
+
+  pub ended-else : 266 ≤ p → ((p - 266) % 11 ≡ 10 → ⊥) → getD bd p 0 ≡ endedAt bd p
+  unfolding endedAt
+  ended-else h n = rw (ltb-no p 266 h, eqb-other ((p - 266) % 11) 10 n)
+
+-- ---- the three steps open the board
+
+module _ (bd a b : List ℕ) (october : Bool) (ea : a ≡ tab 970 (clearedAt bd october)) (eb : b ≡ tab 970 (movedAt a)) where
+  first : (p : ℕ) → p < 970 → getD a p 0 ≡ clearedAt bd october p
+  first p h = ap (λ (l : List ℕ). getD l p 0) ea ∙ tab-at (clearedAt bd october) 970 p 0 h
+
+  second : (p : ℕ) → p < 970 → getD b p 0 ≡ movedAt a p
+  second p h = ap (λ (l : List ℕ). getD l p 0) eb ∙ tab-at (movedAt a) 970 p 0 h
+
+  cleared-opened : (p : ℕ) → p < 266 → clearedAt bd october p ≡ openedAt bd october p
+  unfolding clearedAt openedAt
+  cleared-opened p h = rw (ltb-yes p 266 h)
+
+  due-ended : (p : ℕ) → 266 ≤ p → (p - 266) % 11 ≡ 10 → 0 ≡ openedAt bd october p
+  unfolding openedAt
+  due-ended p h e = rw (ltb-no p 9 (omega arith), ltb-no p 266 h, e)
+
+  due-moved : (p : ℕ) → 266 ≤ p → ((p - 266) % 11 ≡ 10 → ⊥) → getD bd (p + 1) 0 ≡ openedAt bd october p
+  unfolding openedAt
+  due-moved p h n = rw (ltb-no p 9 (omega arith), ltb-no p 266 h, eqb-other ((p - 266) % 11) 10 n)
+
+  third : (p : ℕ) → p < 970 → Dec (p < 266) → endedAt b p ≡ openedAt bd october p
+  third p h (yes k) = sym (ended-before b p k) ∙ second p h ∙ sym (moved-before a p k) ∙ first p h ∙ cleared-opened p k
+  third p h (no k) = by-eqb ((p - 266) % 11) 10 (λ _. endedAt b p ≡ openedAt bd october p)
+      (λ e. sym (ended-here b p (omega arith) e) ∙ due-ended p (omega arith) e)
+      (λ n.
+      sym (ended-else b p (omega arith) n)
+      ∙ second p h
+      ∙ sym (moved-here a p (omega arith) (omega (arith, n)))
+      ∙ first (p + 1) (omega (arith, n))
+      ∙ sym (cleared-after bd october (p + 1) (omega arith))
+      ∙ due-moved p (omega arith) n)
+
+  pub opened-is : (c : List ℕ) → c ≡ tab 970 (endedAt b) → c ≡ openedBoard bd october
+  unfolding openedBoard
+  opened-is c ec = ec ∙ tab-same 970 (endedAt b) (openedAt bd october) (λ p h. third p h (decLt p 266))

@@ -1,0 +1,2 @@
+// The month on lent numbers.
+pub mod month;

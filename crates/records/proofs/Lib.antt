@@ -1,0 +1,4 @@
+pub mod Decoded
+pub mod Rows
+pub mod Table
+pub mod Counted

@@ -1,0 +1,137 @@
+-- The records of the four bodies: where each field stands (01, "The basin file"), and the basin that they describe in the rules' words.
+-- A body holds as many records as fill it.
+use mathlib.Core.Bool.{cond}
+use mathlib.Core.List.{List, _++_}
+use Prim.Native.Nat.{ℕ, _+_, _-_, _*_, _/_}
+use lib.Dec.{eqb}
+use lib.ListN.{length, replicate}
+use Rattle.general.specs.Tables.{tab}
+use Rattle.rules.specs.Basin.{Station, Reservoir, Kind, direct, project, instream, storage, Right, Basin}
+use Rattle.records.specs.declared.stations.StationRecord.{StationRecord}
+use Rattle.records.specs.declared.reservoirs.ReservoirRecord.{ReservoirRecord}
+use Rattle.records.specs.declared.rights.RightRecord.{RightRecord}
+use Rattle.layout.specs.Bytes.{byteAt, le16At, le32At}
+use Rattle.layout.specs.File.{sectionOf}
+
+-- ---- stations, 8 bytes: number (4), order (1), 3 zero bytes
+
+abbrev pub rowsOf : List ℕ → ℕ
+rowsOf s = length s / 8
+
+unfoldable pub stationRecord : List ℕ → ℕ → StationRecord
+stationRecord s i = record { number = le32At s (8 * i); order = byteAt s (8 * i + 4) }
+
+unfoldable pub stationOf : List ℕ → ℕ → Station
+stationOf s i = record { number = (stationRecord s i) .number; order = (stationRecord s i) .order }
+
+unfoldable pub stationsOf : List ℕ → List Station
+stationsOf s = tab (rowsOf s) (stationOf s)
+
+-- ---- reservoirs, 68 bytes: row (1), 3 zero bytes, capacity (4), starting storage (4), four pairs storage (4) and area (4), twelve depths (2 each)
+
+abbrev pub reservoirCount : List ℕ → ℕ
+reservoirCount s = length s / 68
+
+unfoldable pub reservoirRecord : List ℕ → ℕ → ReservoirRecord
+reservoirRecord s v = record { row = byteAt s (68 * v); capacity = le32At s (68 * v + 4); start = le32At s (68 * v + 8) }
+
+unfoldable pub contentAt : List ℕ → ℕ → ℕ → ℕ
+contentAt s v k = le32At s (68 * v + 12 + 8 * k)
+
+unfoldable pub areaAt : List ℕ → ℕ → ℕ → ℕ
+areaAt s v k = le32At s (68 * v + 16 + 8 * k)
+
+unfoldable pub depthAt : List ℕ → ℕ → ℕ → ℕ
+depthAt s v m = le16At s (68 * v + 44 + 2 * m)
+
+unfoldable pub reservoirOf : List ℕ → ℕ → Reservoir
+reservoirOf s v = record {
+  row = (reservoirRecord s v) .row;
+  capacity = (reservoirRecord s v) .capacity;
+  start = (reservoirRecord s v) .start;
+  surveys = tab 4 (λ k. record { content = contentAt s v k; area = areaAt s v k });
+  depths = tab 12 (depthAt s v);
+}
+
+unfoldable pub reservoirsOf : List ℕ → List Reservoir
+reservoirsOf s = tab (reservoirCount s) (reservoirOf s)
+
+-- ---- patterns, 12 bytes: twelve percents
+
+abbrev pub patternCount : List ℕ → ℕ
+patternCount s = length s / 12
+
+unfoldable pub percentAt : List ℕ → ℕ → ℕ → ℕ
+percentAt s p k = byteAt s (12 * p + k)
+
+unfoldable pub patternOf : List ℕ → ℕ → List ℕ
+patternOf s p = tab 12 (percentAt s p)
+
+unfoldable pub patternsOf : List ℕ → List (List ℕ)
+patternsOf s = tab (patternCount s) (patternOf s)
+
+-- the same in a table of sixteen, with zeros in the places that the file leaves free
+unfoldable pub sixteenPatterns : List ℕ → List (List ℕ)
+sixteenPatterns s = patternsOf s ++ replicate (16 - patternCount s) (replicate 12 0)
+
+-- ---- rights, 76 bytes: permit (4), date (4), kind, row, reservoir, efficiency, pattern, number of return points (1 each), months word (2), yearly limit (4),
+-- ---- twelve amounts (4 each), four pairs return row (1) and percent (1)
+
+abbrev pub rightCount : List ℕ → ℕ
+rightCount s = length s / 76
+
+unfoldable pub rightRecord : List ℕ → ℕ → RightRecord
+rightRecord s i = record {
+  permit = le32At s (76 * i);
+  date = le32At s (76 * i + 4);
+  kind = byteAt s (76 * i + 8);
+  row = byteAt s (76 * i + 9);
+  reservoir = byteAt s (76 * i + 10);
+  efficiency = byteAt s (76 * i + 11);
+  pattern = byteAt s (76 * i + 12);
+  points = byteAt s (76 * i + 13);
+  months = le16At s (76 * i + 14);
+  limit = le32At s (76 * i + 16);
+}
+
+unfoldable pub amountAt : List ℕ → ℕ → ℕ → ℕ
+amountAt s i m = le32At s (76 * i + 20 + 4 * m)
+
+unfoldable pub returnRow : List ℕ → ℕ → ℕ → ℕ
+returnRow s i k = byteAt s (76 * i + 68 + 2 * k)
+
+unfoldable pub returnPercent : List ℕ → ℕ → ℕ → ℕ
+returnPercent s i k = byteAt s (76 * i + 69 + 2 * k)
+
+-- 1 direct; 2 project; 3 instream; 4 storage
+unfoldable pub kindOf : ℕ → Kind
+kindOf k = cond (eqb k 1) direct (cond (eqb k 2) project (cond (eqb k 3) instream storage))
+
+-- its return points are the first pairs, as many as the record says
+unfoldable pub rightOf : List ℕ → ℕ → Right
+rightOf s i = record {
+  permit = (rightRecord s i) .permit;
+  date = (rightRecord s i) .date;
+  kind = kindOf ((rightRecord s i) .kind);
+  row = (rightRecord s i) .row;
+  reservoir = (rightRecord s i) .reservoir;
+  efficiency = (rightRecord s i) .efficiency;
+  pattern = (rightRecord s i) .pattern;
+  months = (rightRecord s i) .months;
+  limit = (rightRecord s i) .limit;
+  amounts = tab 12 (amountAt s i);
+  points = tab ((rightRecord s i) .points) (λ k. record { row = returnRow s i k; percent = returnPercent s i k });
+}
+
+unfoldable pub rightsOf : List ℕ → List Right
+rightsOf s = tab (rightCount s) (rightOf s)
+
+-- ---- the basin of a file
+
+unfoldable pub basinOf : List ℕ → Basin
+basinOf f = record {
+  stations = stationsOf (sectionOf f 0);
+  reservoirs = reservoirsOf (sectionOf f 1);
+  patterns = patternsOf (sectionOf f 2);
+  rights = rightsOf (sectionOf f 3);
+}

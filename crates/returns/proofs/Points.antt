@@ -1,0 +1,163 @@
+-- One return point after another. Assumes nothing.
+use mathlib.Core.Bool.{Bool, true, false}
+use mathlib.Core.List.{List, [], _∷_, _++_}
+use mathlib.Core.Path.{_≡_, refl, sym, ap, _∙_}
+use Prim.Native.Nat.{ℕ, zero, suc, _+_, _-_, _*_, _/_, _≤_, _<_}
+use native.Mathlib.Numerals.{add-one}
+use native.Mathlib.Omega.{arith}
+use native.Mathlib.Decide.{decLt}
+use lib.Dec.{eqb}
+use lib.ListN.{getD}
+use Rattle.general.specs.Sums.{sumOver, sum, sumTo, only}
+use Rattle.general.specs.Tables.{tab}
+use Rattle.general.specs.Tests.{has}
+use Rattle.general.proofs.Sums.{sum-append}
+use Rattle.general.proofs.Tests.{by-eqb, only-le}
+use Rattle.rules.specs.River.{Level, along, returned}
+use Rattle.rules.specs.Returns.{shares, Part, lagged, returnedAt}
+use Rattle.records.specs.Records.{returnRow, returnPercent}
+use Rattle.records.specs.Table.{pathBy}
+use Rattle.river.specs.Arrays.{levelsOf, Room, CanReturn, Walked}
+use Rattle.river.proofs.Table.{by-in}
+use Rattle.river.proofs.Levels.{change-idle, returned-read, returned-zero}
+use Rattle.returns.specs.Dues.{mostAmount, roomy, Roomy, Whole, CanSplit, Lagged}
+use Rattle.returns.specs.Returning.{dueIn, pointsUpTo, partIn, partsIn, returnBy, RiverOk, BoardOk, PointsOk, CanGive, Gave}
+use Rattle.returns.proofs.Shares.{lagged-le, share-le}
+
+-- ---- lists of parts, one more
+
+parts-more : (ri : List ℕ) (i rest n : ℕ) → partsIn ri i rest (n + 1) ≡ partsIn ri i rest n ++ (partIn ri i rest n ∷ [])
+unfolding partsIn tab
+parts-more ri i rest n = rw (add-one n)
+
+return-more : (t pattern : List ℕ) (qs : List Part) (q : Part) (l : List Level) → returnBy t pattern (qs ++ (q ∷ [])) l ≡ along (returned (lagged pattern 0 q)) (pathBy t (q .row)) (returnBy t pattern qs l)
+unfolding returnBy
+return-more t pattern [] q l = refl
+return-more t pattern (x ∷ qs) q l = return-more t pattern qs q _
+
+returned-more : (pattern : List ℕ) (w s : ℕ) (qs : List Part) (q : Part) → returnedAt pattern w s (qs ++ (q ∷ [])) ≡ returnedAt pattern w s qs + only (eqb (q .row) w) (lagged pattern s q)
+unfolding returnedAt
+returned-more pattern w s qs q = sum-append (λ (x : Part). only (eqb (x .row) w) (lagged pattern s x)) qs q
+
+-- ---- sums of percents
+
+pub points-none : (ri : List ℕ) (i : ℕ) → 0 ≡ pointsUpTo ri i 0
+unfolding sumTo
+points-none ri i = refl
+
+pub points-more : (ri : List ℕ) (i k : ℕ) → pointsUpTo ri i (k + 1) ≡ pointsUpTo ri i k + returnPercent ri i k
+unfolding sumTo
+points-more ri i k = rw (add-one k)
+
+pub points-le : (ri : List ℕ) (i k n : ℕ) → k ≤ n → pointsUpTo ri i k ≤ pointsUpTo ri i n
+unfolding sumTo
+points-le ri i k zero h = let e : k ≡ 0 = omega arith in rw e (omega arith)
+points-le ri i k (suc n) h = by-eqb k (suc n) (λ _. pointsUpTo ri i k ≤ pointsUpTo ri i (suc n)) (λ e. rw e (omega arith)) (λ e. omega (arith, points-le ri i k n (omega arith)))
+
+-- ---- the amount at a point
+
+pub amount-is : (ri : List ℕ) (i rest k c p : ℕ) → c ≡ pointsUpTo ri i k → p ≡ returnPercent ri i k → rest * (c + p) / 100 - rest * c / 100 ≡ (partIn ri i rest k) .amount
+unfolding partIn sumTo
+amount-is ri i rest k c p e f = rw (e, f)
+
+pub part-is : (ri : List ℕ) (i rest k row amount : ℕ) → row ≡ returnRow ri i k → amount ≡ (partIn ri i rest k) .amount → record { row = row; amount = amount } ≡ partIn ri i rest k
+unfolding partIn
+part-is ri i rest k row amount e f = λ z. record { row = e z; amount = f z }
+
+lagged-is : (pattern : List ℕ) (s : ℕ) (q : Part) → getD (shares (q .amount) pattern) s 0 ≡ lagged pattern s q
+unfolding lagged
+lagged-is pattern s q = refl
+
+-- ---- what one put back does to each row
+
+module _ (t f a : List ℕ) (d row : ℕ) (o : RiverOk t f a (roomy + roomy)) (h : row < 64) (m : d ≤ roomy) where
+  pub can-return : CanReturn t row d f a
+  can-return = record {
+    row-ok = record { downhill = o .downhill; on = h };
+    places = o .places;
+    places₂ = o .places₂;
+    flows = record { fits = λ k e. omega (arith, o .room k (by-in t (o .downhill) row h k e)) };
+    availables = record { fits = λ k e. omega (arith, o .room k (by-in t (o .downhill) row h k e), o .within k (by-in t (o .downhill) row h k e)) };
+  }
+
+module _ (f a : List ℕ) (p : List ℕ) (d : ℕ) where
+  pub put-nothing : d ≡ 0 → Walked (returned d) p f a f a
+  put-nothing e = record { levels = λ n. rw e (change-idle n (returned 0) p f a returned-zero); flow-size = refl; available-size = refl }
+
+  module _ (f′ a′ : List ℕ) (e : Walked (returned d) p f a f′ a′) where
+    pub put-grown : (w : ℕ) → w < 64 → getD f′ w 0 ≤ getD f w 0 + d
+    put-grown w h = omega (arith, returned-read 64 d p f a f′ a′ (e .levels 64) w h .0, only-le (has w p) d)
+
+    pub put-within : (w : ℕ) → w < 64 → getD a w 0 ≤ getD f w 0 → getD a′ w 0 ≤ getD f′ w 0
+    put-within w h l = omega (arith, returned-read 64 d p f a f′ a′ (e .levels 64) w h)
+
+-- ---- the loop
+
+module _ (t pattern ri : List ℕ) (i rest : ℕ) (f a bd : List ℕ) where
+  pub gave-none : ((w : ℕ) → w < 64 → getD a w 0 ≤ getD f w 0) → Gave t pattern ri i 0 rest f a bd f a bd
+  unfolding partsIn tab returnBy returnedAt sumOver
+  gave-none h = record {
+    levels = λ h. refl;
+    dues = λ w k l. omega arith;
+    same = λ j l. refl;
+    size = refl;
+    flow-size = refl;
+    available-size = refl;
+    grown = λ w l. omega arith;
+    within = h;
+    filled = λ j. omega arith;
+  }
+
+  -- the river and the board as the points so far have left them
+  module _ (k : ℕ) (f₁ a₁ bd₁ : List ℕ) (w : Gave t pattern ri i k rest f a bd f₁ a₁ bd₁) (few : k ≤ 4) where
+    pub river-after : RiverOk t f a roomy → RiverOk t f₁ a₁ (roomy + roomy)
+    river-after o = record {
+      downhill = o .downhill;
+      places = omega (arith, o .places, w .flow-size);
+      places₂ = omega (arith, o .places₂, w .available-size);
+      room = λ x l. omega (arith, w .grown x l, o .room x l);
+      within = w .within;
+    }
+
+    module _ (q : Part) (at-once d : ℕ) (f₂ a₂ bd₂ : List ℕ) (part : q ≡ partIn ri i rest k) (whole : sum pattern ≡ 100) (row-in : q .row < 64) (small : q .amount ≤ mostAmount)
+        (now-is : at-once ≡ getD (shares (q .amount) pattern) 0 0) (split : Lagged pattern (q .amount) (266 + 11 * q .row) 11 bd₁ bd₂)
+        (back : Walked (returned at-once) (pathBy t (q .row)) f₁ a₁ f₂ a₂) where
+      once-le : at-once ≤ mostAmount
+      once-le = omega (arith, now-is, share-le (q .amount) pattern 0 whole, small)
+
+      levels-more : (h : ℕ) → levelsOf h f₂ a₂ ≡ returnBy t pattern (partsIn ri i rest (k + 1)) (levelsOf h f a)
+      levels-more h =
+          back .levels h
+          ∙ ap (λ (x : ℕ). along (returned x) (pathBy t (q .row)) (levelsOf h f₁ a₁)) (now-is ∙ lagged-is pattern 0 q)
+          ∙ ap (λ (l : List Level). along (returned (lagged pattern 0 q)) (pathBy t (q .row)) l) (w .levels h)
+          ∙ sym (return-more t pattern (partsIn ri i rest k) q (levelsOf h f a))
+          ∙ ap (λ (qs : List Part). returnBy t pattern qs (levelsOf h f a)) (ap (λ (x : Part). partsIn ri i rest k ++ (x ∷ [])) part ∙ sym (parts-more ri i rest k))
+
+      -- the dues of the point's row grow, the others stay
+      due-grown : (v s : ℕ) → s < 11 → dueIn bd₂ v s ≡ dueIn bd₁ v s + only (eqb (q .row) v) (lagged pattern (suc s) q)
+      due-grown v s l = by-eqb (q .row) v (λ b. dueIn bd₂ v s ≡ dueIn bd₁ v s + only b (lagged pattern (suc s) q))
+          (λ e. rw (← e) (split .each s l ∙ ap (λ (x : ℕ). getD bd₁ (266 + 11 * q .row + s) 0 + x) (lagged-is pattern (suc s) q)))
+          (λ e. aside e (decLt v (q .row)))
+        where
+          aside : (q .row ≡ v → ⊥) → Dec (v < q .row) → dueIn bd₂ v s ≡ dueIn bd₁ v s + 0
+          aside e (yes h) = omega (arith, split .under (266 + 11 * v + s) (omega arith))
+          aside e (no h) = omega (arith, split .over (266 + 11 * v + s) (omega arith))
+
+      pub gave-more : Gave t pattern ri i (k + 1) rest f a bd f₂ a₂ bd₂
+      gave-more = record {
+        levels = levels-more;
+        dues = λ v s l. omega (
+          arith,
+          due-grown v s l,
+          w .dues v s l,
+          returned-more pattern v (suc s) (partsIn ri i rest k) q,
+          ap (λ (qs : List Part). returnedAt pattern v (suc s) qs) (ap (λ (x : Part). partsIn ri i rest k ++ (x ∷ [])) part ∙ sym (parts-more ri i rest k)),
+        );
+        same = λ j l. split .under j (omega arith) ∙ w .same j l;
+        size = split .size ∙ w .size;
+        flow-size = back .flow-size ∙ w .flow-size;
+        available-size = back .available-size ∙ w .available-size;
+        grown = λ x l. omega (arith, put-grown f₁ a₁ (pathBy t (q .row)) at-once f₂ a₂ back x l, w .grown x l, once-le);
+        within = λ x l. put-within f₁ a₁ (pathBy t (q .row)) at-once f₂ a₂ back x l (w .within x l);
+        filled = λ j. omega (arith, lagged-le pattern (q .amount) (266 + 11 * q .row) bd₁ 11 bd₂ whole split j, w .filled j, small);
+      }

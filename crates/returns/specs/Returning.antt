@@ -1,0 +1,75 @@
+-- What of a diversion returns: over the return points of a right, as its record has them, then over the months.
+use mathlib.Core.List.{List, [], _∷_}
+use mathlib.Core.Path.{_≡_}
+use Prim.Native.Nat.{ℕ, suc, _+_, _-_, _*_, _/_, _≤_, _<_}
+use lib.ListN.{length, getD}
+use Rattle.general.specs.Sums.{sumTo}
+use Rattle.general.specs.Tables.{tab}
+use Rattle.rules.specs.River.{Level, along, returned}
+use Rattle.rules.specs.Returns.{Part, lagged, returnedAt}
+use Rattle.records.specs.Records.{rightCount, returnRow, returnPercent}
+use Rattle.records.specs.Table.{pathBy, Downhill}
+use Rattle.river.specs.Arrays.{levelsOf}
+use Rattle.returns.specs.Dues.{mostAmount, roomy, Roomy, Whole}
+
+-- the due of row w, k + 1 months on
+abbrev pub dueIn : List ℕ → ℕ → ℕ → ℕ
+dueIn bd w k = getD bd (266 + 11 * w + k) 0
+
+-- the sum of the percents of the first k return points
+abbrev pub pointsUpTo : List ℕ → ℕ → ℕ → ℕ
+pointsUpTo ri i k = sumTo k (returnPercent ri i)
+
+-- what of an amount returns at point k of right i
+unfoldable pub partIn : List ℕ → ℕ → ℕ → ℕ → Part
+partIn ri i rest k = record { row = returnRow ri i k; amount = rest * pointsUpTo ri i (suc k) / 100 - rest * pointsUpTo ri i k / 100 }
+
+unfoldable pub partsIn : List ℕ → ℕ → ℕ → ℕ → List Part
+partsIn ri i rest n = tab n (partIn ri i rest)
+
+-- the shares of month 0 go back along the paths that a table gives
+unfoldable pub returnBy : List ℕ → List ℕ → List Part → List Level → List Level
+returnBy t pattern [] l = l
+returnBy t pattern (q ∷ qs) l = returnBy t pattern qs (along (returned (lagged pattern 0 q)) (pathBy t (q .row)) l)
+
+-- ---- what is asked of the arrays
+
+-- a place for each row, available flow at most the flow, and room for more
+pub record RiverOk (t f a : List ℕ) (most : ℕ) : Type 0 where
+  pub downhill : Downhill t
+  pub places : 64 ≤ length f
+  pub places₂ : 64 ≤ length a
+  pub room : (w : ℕ) → w < 64 → getD f w 0 ≤ most
+  pub within : (w : ℕ) → w < 64 → getD a w 0 ≤ getD f w 0
+
+pub record BoardOk (bd : List ℕ) (most : ℕ) : Type 0 where
+  pub size : length bd ≡ 970
+  pub room : Roomy bd most
+
+-- the n return points of right i, and the pattern that they share
+pub record PointsOk (pa : List (List ℕ)) (ri : List ℕ) (i n which : ℕ) : Type 0 where
+  pub right-in : i < rightCount ri
+  pub few : n ≤ 4
+  pub rows : (k : ℕ) → k < n → returnRow ri i k < 64
+  pub percents : pointsUpTo ri i n ≤ 100
+  pub known : 0 < n → which < 16
+  pub whole : 0 < n → Whole (getD pa which [])
+
+pub record CanGive (t : List ℕ) (pa : List (List ℕ)) (ri : List ℕ) (i n which rest : ℕ) (f a bd : List ℕ) : Type 0 where
+  pub points-ok : PointsOk pa ri i n which
+  pub small : rest ≤ mostAmount
+  pub river : RiverOk t f a roomy
+  pub board : BoardOk bd roomy
+
+-- ---- what is left: f, a, bd before, f′, a′, bd′ after the first n points; the levels however many rows h are asked after
+
+pub record Gave (t pattern ri : List ℕ) (i n rest : ℕ) (f a bd f′ a′ bd′ : List ℕ) : Type 0 where
+  pub levels : (h : ℕ) → levelsOf h f′ a′ ≡ returnBy t pattern (partsIn ri i rest n) (levelsOf h f a)
+  pub dues : (w k : ℕ) → k < 11 → dueIn bd′ w k ≡ dueIn bd w k + returnedAt pattern w (suc k) (partsIn ri i rest n)
+  pub same : (j : ℕ) → j < 266 → getD bd′ j 0 ≡ getD bd j 0
+  pub size : length bd′ ≡ length bd
+  pub flow-size : length f′ ≡ length f
+  pub available-size : length a′ ≡ length a
+  pub grown : (w : ℕ) → w < 64 → getD f′ w 0 ≤ getD f w 0 + n * mostAmount
+  pub within : (w : ℕ) → w < 64 → getD a′ w 0 ≤ getD f′ w 0
+  pub filled : (j : ℕ) → getD bd′ j 0 ≤ getD bd j 0 + n * mostAmount
