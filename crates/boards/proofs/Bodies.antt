@@ -11,14 +11,11 @@ use lib.Dec.{leb, ltb, eqb}
 use lib.ListN.{length, getD, replicate, List·getD-eq-default}
 use Rattle.general.specs.Sums.{only, sumTo}
 use Rattle.general.specs.Tests.{_and_, allTo}
-use Rattle.general.proofs.Tests.{eqb-other, by-eqb, leb-yes, ltb-yes, ltb-no, both-of, le-of, only-le}
-use Rattle.general.proofs.Search.{all-at}
+use Rattle.general.proofs.Tests.{eqb-other, by-eqb, leb-yes, ltb-yes, ltb-no}
 use Rattle.general.proofs.Tables.{tab-length, tab-at, tab-past, tab-same}
-use Rattle.general.proofs.Lists.{getD-zeros, getD-map-in, all-at-place}
-use Rattle.rules.specs.Basin.{Reservoir, Right, Basin, rows, reservoirAt, noReservoir, noRight}
-use Rattle.rules.specs.Accepted.{GoodReservoir}
+use Rattle.general.proofs.Lists.{getD-zeros, getD-map-in}
+use Rattle.rules.specs.Basin.{Reservoir, Right, Basin, noReservoir, noRight}
 use Rattle.rules.specs.Tally.{freshCarried}
-use Rattle.rules.specs.Theorems.{mostDue}
 use Rattle.basin.specs.declared.Verdict.the-variants.{Accepted}
 use Rattle.layout.specs.Bytes.{le32At}
 use Rattle.layout.specs.File.{sectionOf}

@@ -2,13 +2,13 @@
 use mathlib.Core.Bool.{Bool, true, false}
 use mathlib.Core.List.{List}
 use mathlib.Core.Path.{_≡_, ap}
-use Prim.Native.Nat.{ℕ, suc, _+_, _*_, _^_, _≤_, _<_}
+use Prim.Native.Nat.{ℕ, suc, _^_, _≤_, _<_}
 use native.Mathlib.Decide.{decLt}
 use native.Mathlib.Omega.{arith}
-use lib.Dec.{leb, ltb}
-use lib.ListN.{length, getD, List·getD-eq-default}
+use lib.Dec.{ltb}
+use lib.ListN.{length, List·getD-eq-default}
 use Rattle.general.specs.Sums.{only}
-use Rattle.general.specs.Tests.{_and_, allTo}
+use Rattle.general.specs.Tests.{_and_}
 use Rattle.general.proofs.Lists.{all-at-place}
 use Rattle.general.proofs.Search.{all-at, all-make}
 use Rattle.general.proofs.Tests.{leb-yes, ltb-yes, ltb-no, both-of, and-of, le-of, lt-of, only-le}

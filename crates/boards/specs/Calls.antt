@@ -1,22 +1,21 @@
 -- The calls on a file and lent numbers: fresh, month and stock, each for every input, refusals included (01, "Numbers for what is turned down").
 use mathlib.Core.Path.{_≡_}
-use mathlib.Core.Bool.{Bool, true, false, cond}
+use mathlib.Core.Bool.{Bool, true, false}
 use mathlib.Core.List.{List}
 use mathlib.Core.Option.{Option, none, some}
 use Prim.Native.Nat.{ℕ, suc, _+_, _<_}
 use lib.Dec.{leb, ltb, eqb}
-use lib.ListN.{length, getD}
+use lib.ListN.{length}
 use Rattle.general.specs.Sums.{only}
 use Rattle.general.specs.Tables.{tab}
 use Rattle.general.specs.Tests.{_and_, has}
 use Rattle.rules.specs.Basin.{Basin, rows}
-use Rattle.rules.specs.Turn.{Grant}
-use Rattle.rules.specs.Month.{Carried, returnsAt, MonthRun, month, shortCount}
+use Rattle.rules.specs.Month.{returnsAt, MonthRun, month, shortCount}
 use Rattle.rules.specs.Tally.{Answer, reportLength, overLimit, overAnswer, freshCarried}
 use Rattle.basin.specs.declared.Verdict.{Verdict}
 use Rattle.basin.specs.declared.Verdict.the-variants.{Accepted, Layout, Station, Reservoir, Pattern, Right}
 use Rattle.records.specs.Records.{basinOf}
-use Rattle.basin.specs.Check.{numberOf, placeOf, checkOf}
+use Rattle.basin.specs.Check.{checkOf}
 use Rattle.boards.specs.Board.{carriedOf, dueAt, boardOf, possible, storageSum, dueSum}
 use Rattle.boards.specs.Report.{grantAt, reportOf, nameIn}
 

@@ -1,5 +1,5 @@
 -- The report of a month: a list of numbers of which a month writes the first, and keeps the rest (01, "The report holds").
-use mathlib.Core.Bool.{Bool, cond}
+use mathlib.Core.Bool.{cond}
 use mathlib.Core.List.{List, [], _++_}
 use Prim.Native.Nat.{ℕ, _+_, _-_, _*_, _/_, _%_}
 use lib.Dec.{ltb, eqb}

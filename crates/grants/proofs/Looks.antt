@@ -1,10 +1,10 @@
 -- What a look down the river says. Assumes nothing.
-use mathlib.Core.Bool.{Bool, true, false, not, cond, _||_}
+use mathlib.Core.Bool.{Bool, true, false, cond, _||_}
 use mathlib.Core.List.{List, [], _∷_}
 use mathlib.Core.Logic.{_⊎_, inl, inr}
 use mathlib.Core.Path.{_≡_, refl, sym, ap, _∙_}
-use Prim.Native.Nat.{ℕ, zero, suc, _+_, _*_, _≤_, _<_, min}
-use native.Mathlib.Nat.{le-trans, le-refl}
+use Prim.Native.Nat.{ℕ, _*_, _≤_, _<_, min}
+use native.Mathlib.Nat.{le-refl}
 use native.Mathlib.Omega.{arith}
 use lib.Dec.{ltb, eqb}
 use lib.ListN.{getD}
@@ -12,7 +12,7 @@ use Rattle.general.specs.Tests.{has}
 use Rattle.general.proofs.Search.{has-head, has-tail, has-other, has-none}
 use Rattle.general.proofs.Tables.{tab-at}
 use Rattle.general.proofs.Tests.{absurd-bool, by-eqb, lt-of, not-lt-of}
-use Rattle.rules.specs.Basin.{Station, noStation, stationAt}
+use Rattle.rules.specs.Basin.{Station, noStation}
 use Rattle.rules.specs.Turn.{anyOn, numberAt}
 use Rattle.layout.specs.Bytes.{le32At}
 use Rattle.records.specs.Records.{rowsOf, stationRecord, stationOf, stationsOf}
@@ -23,7 +23,7 @@ use Rattle.river.specs.Arrays.{seenOn}
 use Rattle.records.proofs.Table.{by-self}
 use Rattle.river.proofs.Table.{by-in}
 use Rattle.grants.specs.declared.grants.Reason.{Reason}
-use Rattle.grants.specs.declared.grants.Reason.the-variants.{Met, Called, RiverLow, StorageOut}
+use Rattle.grants.specs.declared.grants.Reason.the-variants.{Called, RiverLow}
 use Rattle.grants.specs.Grants.{CanSee, seenBy, partOf, reasonOf, RiverGave}
 
 pub number-is : (s : List ℕ) (row : ℕ) → row < rowsOf s → numberAt (stationsOf s) row ≡ le32At s (8 * row)

@@ -1,5 +1,5 @@
 -- What the kind's byte says. Assumes nothing.
-use mathlib.Core.Bool.{Bool, true, false, not, cond, _&&_}
+use mathlib.Core.Bool.{Bool, true, false, not, _&&_}
 use mathlib.Core.List.{List, [], _∷_}
 use mathlib.Core.Logic.{_≢_}
 use mathlib.Core.Path.{_≡_, refl, sym, ap, _∙_}
@@ -10,7 +10,6 @@ use lib.Dec.{ltb, eqb}
 use lib.ListN.{length, getD, set, length-set}
 use lib.Seq.{getD-set-other, set-getD}
 use Rattle.general.proofs.Tests.{eqb-other, eqb-same, by-eqb, ltb-yes, ltb-no}
-use Rattle.general.specs.Sums.{only}
 use Rattle.rules.specs.Basin.{Kind, direct, project, instream, storage}
 use Rattle.rules.specs.Path.{untilRow}
 use Rattle.rules.specs.River.{Level, diverted, reserved, released}
@@ -19,7 +18,7 @@ use Rattle.records.specs.Records.{kindOf, rightRecord, amountAt}
 use Rattle.records.specs.Table.{pathBy}
 use Rattle.river.specs.Arrays.{levelsOf, Walked, Raised}
 use Rattle.river.proofs.Levels.{walk-done, change-idle, available-here, available-other, reserved-level, diverted-zero, reserved-zero, released-zero}
-use Rattle.grants.specs.Stages.{isStorage, amountIn, askOf, askIn, capacityIn, levelsTaken, Taken, markedBoard, poured, boardStored, drawnIn, boardDrawn, levelsReleased, homeRow, Drawn}
+use Rattle.grants.specs.Stages.{isStorage, amountIn, askOf, askIn, levelsTaken, Taken, markedBoard, poured, boardStored, drawnIn, boardDrawn, levelsReleased, homeRow, Drawn}
 
 pub kind-direct : (k : ℕ) → k ≡ 1 → kindOf k ≡ direct
 unfolding kindOf

@@ -1,6 +1,6 @@
 -- What a look down the river gives a right, in the arrays' words.
-use mathlib.Core.Bool.{Bool, true, false, cond}
-use mathlib.Core.List.{List, [], _∷_}
+use mathlib.Core.Bool.{Bool, true, cond}
+use mathlib.Core.List.{List}
 use mathlib.Core.Path.{_≡_}
 use Prim.Native.Nat.{ℕ, _<_, min}
 use lib.Dec.{eqb}
@@ -13,7 +13,7 @@ use Rattle.river.specs.declared.Seen.the-variants as seen
 use Rattle.records.specs.Table.{pathBy, OnTable}
 use Rattle.river.specs.Arrays.{seenOn}
 use Rattle.grants.specs.declared.grants.Reason.{Reason}
-use Rattle.grants.specs.declared.grants.Reason.the-variants.{Met, Called, RiverLow, StorageOut}
+use Rattle.grants.specs.declared.grants.Reason.the-variants.{Called, RiverLow}
 use Rattle.grants.specs.declared.grants.RiverPart.{RiverPart}
 
 -- a row of the table, and a station at each row of its path

@@ -2,7 +2,7 @@
 use mathlib.Core.Bool.{Bool, true, false, not, cond, _&&_}
 use mathlib.Core.List.{List, [], _∷_}
 use mathlib.Core.Path.{_≡_}
-use Prim.Native.Nat.{ℕ, _+_, _-_, _*_, _^_, _≤_, _<_, min}
+use Prim.Native.Nat.{ℕ, _+_, _-_, _^_, _≤_, _<_, min}
 use lib.Dec.{ltb, eqb}
 use lib.ListN.{length, getD, set}
 use Rattle.general.specs.Sums.{only}
@@ -14,7 +14,7 @@ use Rattle.records.specs.declared.rights.RightRecord.{RightRecord}
 use Rattle.records.specs.Records.{reservoirCount, reservoirRecord, rightCount, rightRecord, amountAt, kindOf}
 use Rattle.records.specs.Table.{pathBy}
 use Rattle.river.specs.Arrays.{levelsOf, CanDivert, CanRelease}
-use Rattle.returns.specs.Dues.{mostAmount, roomy}
+use Rattle.returns.specs.Dues.{mostAmount}
 use Rattle.returns.specs.Returning.{BoardOk}
 
 abbrev pub isStorage : Kind → Bool

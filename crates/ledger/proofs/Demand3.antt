@@ -1,31 +1,27 @@
 -- Demand 3. Assumes nothing.
 use mathlib.Core.Path.{_≡_, refl, sym, ap, _∙_, subst}
-use mathlib.Core.Bool.{Bool, true, false, cond}
-use mathlib.Core.List.{List, [], _∷_, _++_, map}
+use mathlib.Core.Bool.{Bool, true, false}
+use mathlib.Core.List.{List, [], _∷_, map}
 use mathlib.Core.Option.{Option, none, some}
-use Prim.Native.Nat.{ℕ, zero, suc, _+_, _*_, _≤_, _<_}
+use Prim.Native.Nat.{ℕ, zero, suc, _+_, _*_, _<_}
 use native.Mathlib.Omega.{arith}
-use lib.Dec.{leb, eqb}
-use lib.ListN.{length, getD, drop, length-map, List·getD-map}
-use lib.IntN.{ℤ, pos}
-use lib.Signed.{_≤ℤ_}
+use lib.ListN.{length, getD, drop}
+use lib.IntN.{pos}
 use Rattle.general.specs.Tables.{tab, All}
 use Rattle.general.specs.Tests.{_and_, has}
 use Rattle.general.proofs.Signed.{le-transℤ}
 use Rattle.general.proofs.Tests.{eqb-same}
-use Rattle.general.proofs.Lists.{all-at-place}
-use Rattle.rules.specs.Basin.{Basin, rows, noRight}
-use Rattle.rules.specs.River.{Sound, levelAt, flowAt, availableAt}
-use Rattle.rules.specs.Turn.{Grant, Turn}
-use Rattle.rules.specs.Month.{Carried, grantsOf, MonthRun, month, shortCount}
-use Rattle.rules.specs.Tally.{Call, Answer, reportLength, overLimit, overAnswer, judged, refusal, Tally, fresh, pending, arriving, nextRun, accept, afterJudged, afterCall, afterCalls, answerJudged, answerOf}
+use Rattle.rules.specs.Basin.{Basin, rows}
+use Rattle.rules.specs.River.{Sound, levelAt}
+use Rattle.rules.specs.Turn.{Turn}
+use Rattle.rules.specs.Month.{grantsOf, MonthRun, month, shortCount}
+use Rattle.rules.specs.Tally.{Call, Answer, reportLength, overLimit, overAnswer, judged, refusal, Tally, fresh, pending, arriving, nextRun, afterJudged, afterCall, answerJudged, answerOf}
 use Rattle.rules.specs.Accepted.{Accepted}
 use Rattle.rules.specs.Theorems.{Possible}
-use Rattle.rules.proofs.Months.{MonthOk, month-ok, month-length}
+use Rattle.rules.proofs.Months.{month-ok, month-length}
 use Rattle.rules.proofs.Names.{firstOf, Named, TurnNamed, month-named}
 use Rattle.rules.proofs.Bounds.{fresh-possible, call-possible}
 use Rattle.rules.proofs.Theorems.{water}
-use Rattle.basin.specs.declared.Verdict.{Verdict}
 use Rattle.basin.specs.declared.Verdict.the-variants.{Accepted as AcceptedFile}
 use Rattle.records.specs.Records.{basinOf}
 use Rattle.basin.specs.Check.{checkOf}

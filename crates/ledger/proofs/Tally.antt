@@ -1,31 +1,26 @@
 -- The board that the tally keeps: it is possible, runs the tally's month, and becomes the tally's next board. Assumes nothing.
 use mathlib.Core.Path.{_≡_, refl, sym, ap, _∙_}
-use mathlib.Core.Bool.{Bool, true, false, cond}
+use mathlib.Core.Bool.{true}
 use mathlib.Core.List.{List, [], _∷_, _++_}
-use mathlib.Core.Option.{Option, none, some}
-use Prim.Native.Nat.{ℕ, zero, suc, _+_, _-_, _*_, _^_, _≤_, _<_}
+use Prim.Native.Nat.{ℕ, suc, _+_, _-_, _<_}
 use native.Mathlib.Omega.{arith}
 use native.Mathlib.Decide.{decLt}
-use lib.Dec.{leb, ltb, eqb}
-use lib.ListN.{length, getD}
+use lib.Dec.{ltb}
 use Rattle.general.specs.Sums.{only}
-use Rattle.general.specs.Tables.{tab}
-use Rattle.general.specs.Tests.{_and_, allTo}
-use Rattle.general.proofs.Tests.{eqb-same, leb-yes, ltb-yes, ltb-no, and-of}
-use Rattle.general.proofs.Search.{all-make}
+use Rattle.general.proofs.Tests.{ltb-yes, ltb-no}
 use Rattle.general.proofs.Tables.{tab-same}
-use Rattle.rules.specs.Basin.{Basin, rows, reservoirAt, rightAt}
-use Rattle.rules.specs.Month.{Carried, returnsAt, MonthRun, month}
-use Rattle.rules.specs.Tally.{Call, Answer, reportLength, overLimit, overAnswer, judged, refusal, freshCarried, Tally, fresh, pending, pendingFrom, arriving, nextRun, accept}
+use Rattle.rules.specs.Basin.{Basin, rows}
+use Rattle.rules.specs.Month.{MonthRun, month}
+use Rattle.rules.specs.Tally.{Call, Tally, fresh, pending, pendingFrom, arriving, nextRun, accept}
 use Rattle.rules.specs.Accepted.{Accepted}
-use Rattle.rules.specs.Theorems.{mostDue, Possible}
+use Rattle.rules.specs.Theorems.{Possible}
 use Rattle.rules.proofs.Bounds.{capped-of}
 use Rattle.rules.proofs.Pending.{pending-on, pending-ends}
-use Rattle.boards.specs.Board.{monthAt, storageAt, marksAt, takenAt, dueAt, carriedOf, boardOf, possible}
-use Rattle.boards.specs.Calls.{orElse, unless, boardFits, listsFit, freshBoard, runOf, dueAfter, boardAfter}
+use Rattle.boards.specs.Board.{dueAt, boardOf, possible}
+use Rattle.boards.specs.Calls.{freshBoard, runOf, dueAfter, boardAfter}
 use Rattle.ledger.specs.Demand3.{tallyBoard}
 use Rattle.boards.proofs.Bounds.{board-possible}
-use Rattle.boards.proofs.Board.{Counted, board-length, month-place, storage-place, marks-place, taken-place, due-place, due-of-row, word-less, read-back, board-same}
+use Rattle.boards.proofs.Board.{Counted, due-of-row, read-back, board-same}
 
 written : (b : Basin) (t : Tally) → boardOf b (t .carried) (pending b (t .months)) ≡ tallyBoard b t
 unfolding tallyBoard

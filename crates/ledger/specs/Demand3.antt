@@ -1,15 +1,14 @@
 -- Demand 3, as one claim about any list of month calls on one file. It cites only definitions; proofs/Demand3.antt proves it.
 use mathlib.Core.Path.{_≡_}
-use mathlib.Core.Bool.{Bool, true, false}
+use mathlib.Core.Bool.{true}
 use mathlib.Core.List.{List, [], _∷_, map}
 use mathlib.Core.Option.{Option, none, some}
-use Prim.Native.Nat.{ℕ, suc, _+_, _*_, _<_}
+use Prim.Native.Nat.{ℕ, _+_, _*_, _<_}
 use lib.ListN.{length, getD, drop}
-use lib.IntN.{ℤ, pos}
+use lib.IntN.{pos}
 use Rattle.general.specs.Tests.{has}
 use Rattle.rules.specs.Basin.{Basin, rows}
 use Rattle.rules.specs.River.{flowAt, availableAt}
-use Rattle.rules.specs.Turn.{Grant}
 use Rattle.rules.specs.Month.{MonthRun, reasonNumber}
 use Rattle.rules.specs.Tally.{Call, Answer, reportLength, refusal, Tally, fresh, pending, nextRun, afterCall, afterCalls, answerOf}
 use Rattle.rules.specs.Water.{WaterKept}

@@ -1,25 +1,22 @@
 -- The board that a month leaves is possible again. Assumes nothing.
-use mathlib.Core.Bool.{Bool, true, false, cond}
+use mathlib.Core.Bool.{Bool, true}
 use mathlib.Core.List.{List}
-use mathlib.Core.Path.{_≡_, refl, sym, ap, _∙_}
-use Prim.Native.Nat.{ℕ, suc, _+_, _-_, _*_, _^_, _≤_, _<_}
+use mathlib.Core.Path.{_≡_, ap}
+use Prim.Native.Nat.{ℕ, suc, _+_, _-_, _≤_, _<_}
 use native.Mathlib.Decide.{decLt}
 use native.Mathlib.Omega.{arith}
-use lib.Dec.{leb, ltb}
+use lib.Dec.{ltb}
 use lib.ListN.{length, getD}
 use Rattle.general.specs.Sums.{only}
 use Rattle.general.specs.Tables.{tab}
-use Rattle.general.specs.Tests.{_and_, allTo}
-use Rattle.general.proofs.Search.{all-make}
 use Rattle.general.proofs.Tables.{tab-length, tab-at, tab-past}
-use Rattle.general.proofs.Tests.{leb-yes, ltb-yes, ltb-no, and-of, only-le}
+use Rattle.general.proofs.Tests.{ltb-no, only-le}
 use Rattle.rules.specs.Basin.{Basin, rows, reservoirAt, rightAt}
 use Rattle.rules.specs.Accepted.{Accepted}
-use Rattle.rules.specs.Month.{Carried, returnsAt, MonthRun, month}
 use Rattle.rules.specs.Theorems.{mostDue}
 use Rattle.rules.specs.Turn.{bit}
 use Rattle.rules.proofs.Bounds.{CarriedCapped, month-capped, month-in-year, month-returns-le}
-use Rattle.boards.specs.Board.{monthAt, storageAt, marksAt, takenAt, dueAt, carriedOf, boardOf, possible}
+use Rattle.boards.specs.Board.{storageAt, marksAt, takenAt, dueAt, carriedOf, possible}
 use Rattle.boards.specs.Calls.{runOf, dueAfter, boardAfter}
 use Rattle.boards.proofs.Bounds.{month-most, storage-most, taken-most, due-most, board-possible}
 

@@ -1,41 +1,38 @@
 -- The board that a month leaves, place by place. Assumes nothing.
 use mathlib.Core.Bool.{Bool, true, false, cond}
-use mathlib.Core.List.{List, [], _∷_, _++_}
-use mathlib.Core.Path.{_≡_, refl, sym, ap, _∙_, subst}
+use mathlib.Core.List.{List, [], _∷_}
+use mathlib.Core.Path.{_≡_, refl, sym, ap, _∙_}
 use Prim.Native.Nat.{ℕ, zero, suc, _+_, _-_, _*_, _/_, _%_, _^_, _≤_, _<_}
 use native.Mathlib.Nat.{pow-suc}
 use native.Mathlib.Decide.{decLt}
 use native.Mathlib.Omega.{arith}
-use lib.Dec.{leb, ltb, eqb}
-use lib.ListN.{length, getD, set, length-set, List·getD-eq-default}
+use lib.Dec.{ltb, eqb}
+use lib.ListN.{length, getD, set, length-set}
 use lib.Seq.{ext-getD, getD-set-same, getD-set-other}
 use Rattle.general.specs.Sums.{only, sumOver}
 use Rattle.general.specs.Tables.{tab, All}
-use Rattle.general.specs.Tests.{_and_, allTo}
-use Rattle.general.proofs.Search.{all-at}
 use Rattle.general.proofs.Tables.{tab-length, tab-at, tab-past, tab-same}
-use Rattle.general.proofs.Tests.{by-eqb, eqb-other, eqb-same, ltb-yes, ltb-no, both-of, le-of, lt-of}
-use Rattle.rules.specs.Basin.{Basin, Reservoir, Right, noReservoir, noRight, rows, reservoirAt, rightAt, patternOf}
-use Rattle.rules.specs.Accepted.{Accepted, GoodRight}
+use Rattle.general.proofs.Tests.{by-eqb, eqb-other, ltb-yes, ltb-no}
+use Rattle.rules.specs.Basin.{Basin, Right, rows, reservoirAt, patternOf}
+use Rattle.rules.specs.Accepted.{GoodRight}
 use Rattle.rules.specs.Returns.{Part, partsOf, lagged, returnedAt}
-use Rattle.rules.specs.Turn.{State, bit, granted, Turn, turn}
+use Rattle.rules.specs.Turn.{State, bit, granted, turn}
 use Rattle.rules.specs.Month.{Carried, MonthRun, opening, turns, afterTurns, returnedBy, returnsAt, evaporation, evaporations, evaporated, nextMonth, month}
-use Rattle.rules.specs.Theorems.{mostDue}
 use Rattle.rules.proofs.Splits.{PartsIn, parts-in}
-use Rattle.records.specs.Records.{reservoirCount, reservoirOf}
+use Rattle.records.specs.Records.{reservoirCount}
 use Rattle.turns.specs.Lines.{turnsFrom, Served}
 use Rattle.monthends.specs.Losses.{lossIn, Lost}
 use Rattle.returns.specs.Returning.{dueIn}
-use Rattle.turns.specs.State.{storagesOf, marksOf, takenOf, stateOf, Setting}
+use Rattle.turns.specs.State.{marksOf, takenOf, stateOf, Setting}
 use Rattle.turns.proofs.Facts.{reservoirs-count, reservoir-is}
 use Rattle.monthends.proofs.Openings.{opened-length}
 use Rattle.turns.proofs.Places.{storage-at, taken-at, bit-suc, bit-zero}
 use Rattle.boards.specs.Board.{monthAt, storageAt, marksAt, takenAt, dueAt, carriedOf, wordOf, boardOf, possible}
 use Rattle.boards.specs.Calls.{runOf, dueAfter, boardAfter}
-use Rattle.boards.proofs.Bounds.{month-most, storage-most, marks-most, taken-most, due-most, no-storage, no-taken, no-due}
+use Rattle.boards.proofs.Bounds.{marks-most, no-storage, no-taken, no-due}
 use Rattle.boards.proofs.Board.{board-length, month-place, storage-place, marks-place, taken-place, due-place}
 use Rattle.boards.proofs.Bodies.{due-read}
-use Rattle.monthrun.proofs.Opened.{opened, opened-month, opened-storage, opened-word, opened-taken, opened-due}
+use Rattle.monthrun.proofs.Opened.{opened, opened-storage, opened-word, opened-taken, opened-due}
 
 -- ---- a board is known by its parts
 

@@ -1,31 +1,27 @@
 -- Month after month of an accepted file: what one leaves is what the next asks for. Assumes nothing.
-use mathlib.Core.Path.{_≡_, refl, sym, ap, _∙_, subst}
+use mathlib.Core.Path.{_≡_, sym, ap, _∙_, subst}
 use mathlib.Core.Bool.{Bool, true, false, cond}
 use mathlib.Core.List.{List, [], _∷_}
 use mathlib.Core.Option.{Option, none, some}
-use Prim.Native.Nat.{ℕ, suc, _+_, _-_, _*_, _≤_, _<_, min}
+use Prim.Native.Nat.{ℕ, _+_, _-_, _*_, _≤_, _<_}
 use native.Mathlib.Nat.{mul-le-mul}
-use native.Mathlib.Decide.{decLt}
 use native.Mathlib.Omega.{arith}
-use lib.Dec.{leb, ltb}
-use lib.ListN.{length, getD, List·getD-eq-default}
-use Rattle.general.specs.Sums.{only}
+use lib.Dec.{leb}
+use lib.ListN.{length, getD}
 use Rattle.general.specs.Tables.{tab, All}
 use Rattle.general.proofs.Lists.{all-at-place}
 use Rattle.general.proofs.Tables.{tab-at}
-use Rattle.general.proofs.Tests.{only-le}
 use Rattle.rules.specs.Accepted.{Accepted, GoodReservoir}
 use Rattle.rules.specs.Basin.{Basin, Reservoir, Survey, noReservoir, rows, reservoirAt}
-use Rattle.rules.specs.Month.{MonthRun, areaFrom, areaAt, evaporation, evaporations, month}
+use Rattle.rules.specs.Month.{areaFrom, areaAt, evaporation, evaporations, month}
 use Rattle.rules.specs.Tally.{Answer, overLimit, overAnswer}
-use Rattle.rules.specs.Theorems.{mostDue}
 use Rattle.rules.proofs.Months.{month-length}
-use Rattle.boards.specs.Board.{storageAt, dueAt, carriedOf, possible}
-use Rattle.boards.specs.Bodies.{bodies, Bounded}
+use Rattle.boards.specs.Board.{dueAt, carriedOf, possible}
+use Rattle.boards.specs.Bodies.{bodies}
 use Rattle.calls.specs.Answers.{settled}
-use Rattle.boards.specs.Report.{reservoirsFrom, reportOf, nameIn}
-use Rattle.boards.specs.Calls.{runOf, boardAfter, Outcome, monthSettled, NamesAllowed}
-use Rattle.steps.specs.Steps.{mostRunoff, CanRun, Ran, CanGoOn, WentOn}
+use Rattle.boards.specs.Report.{reservoirsFrom, nameIn}
+use Rattle.boards.specs.Calls.{runOf, Outcome, monthSettled, NamesAllowed}
+use Rattle.steps.specs.Steps.{CanRun, Ran, CanGoOn, WentOn}
 use Rattle.calls.proofs.Answers.{settled-some}
 use Rattle.monthrun.proofs.After.{after-possible}
 use Rattle.monthrun.proofs.Report.{evaporation-place}

@@ -1,24 +1,24 @@
 -- The board and the river as a month opens are the rules' opening. Assumes nothing.
 use mathlib.Core.Bool.{Bool, true, false, cond}
-use mathlib.Core.List.{List, [], _∷_}
+use mathlib.Core.List.{List}
 use mathlib.Core.Path.{_≡_, refl, sym, ap, _∙_}
-use Prim.Native.Nat.{ℕ, zero, suc, _+_, _-_, _*_, _/_, _%_, _^_, _≤_, _<_}
+use Prim.Native.Nat.{ℕ, zero, suc, _+_, _-_, _*_, _%_, _<_}
 use native.Mathlib.Omega.{arith}
-use lib.Dec.{ltb, eqb}
+use lib.Dec.{eqb}
 use lib.ListN.{length, getD, replicate, length-replicate}
 use Rattle.general.specs.Tables.{tab}
 use Rattle.general.proofs.Lists.{getD-zeros}
 use Rattle.general.proofs.Tests.{ltb-yes, ltb-no}
 use Rattle.general.proofs.Tables.{tab-same, tab-of}
 use Rattle.rules.specs.Basin.{Basin, rows}
-use Rattle.rules.specs.Turn.{State, bit}
+use Rattle.rules.specs.Turn.{bit}
 use Rattle.rules.specs.Month.{openingLevels, opening}
 use Rattle.rules.specs.Accepted.{Accepted}
 use Rattle.river.specs.Arrays.{levelsOf}
 use Rattle.monthends.specs.Opening.{openedAt, openedBoard}
 use Rattle.turns.specs.State.{storagesOf, marksOf, takenOf, shortOf, stateOf}
 use Rattle.monthends.proofs.Openings.{opened-place}
-use Rattle.boards.specs.Board.{monthAt, storageAt, marksAt, takenAt, dueAt, carriedOf}
+use Rattle.boards.specs.Board.{storageAt, marksAt, takenAt, carriedOf}
 use Rattle.boards.proofs.Board.{bit-none}
 
 pub falses : (n i : ℕ) → _≡_ {A = Bool} (getD (replicate n false) i false) false

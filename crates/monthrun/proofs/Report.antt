@@ -1,11 +1,11 @@
 -- What stands at each place of a report. Assumes nothing.
-use mathlib.Core.Path.{_≡_, refl, sym, ap, _∙_}
+use mathlib.Core.Path.{_≡_, refl, ap, _∙_}
 use mathlib.Core.Bool.{Bool, true, false, cond}
-use mathlib.Core.List.{List, [], _∷_, _++_}
-use Prim.Native.Nat.{ℕ, zero, suc, _+_, _-_, _*_, _/_, _%_, _≤_, _<_}
+use mathlib.Core.List.{List, _++_}
+use Prim.Native.Nat.{ℕ, _+_, _-_, _*_, _/_, _%_, _≤_, _<_}
 use native.Mathlib.Omega.{arith}
-use lib.Dec.{ltb, eqb}
-use lib.ListN.{length, getD, drop, length-append, length-drop, List·getD-append}
+use lib.Dec.{ltb}
+use lib.ListN.{length, getD, drop, List·getD-append}
 use lib.Seq.{drop-at}
 use lib.IntN.{ℤ, pos, negsuc, natAbs}
 use lib.Signed.{_≤ℤ_}
@@ -13,8 +13,7 @@ use Rattle.general.specs.Tables.{tab}
 use Rattle.general.proofs.Tests.{ltb-yes, ltb-no, lt-of}
 use Rattle.general.proofs.Tables.{tab-length, tab-at, tab-same}
 use Rattle.rules.specs.Basin.{Basin, rows}
-use Rattle.rules.specs.River.{Level, levelAt}
-use Rattle.rules.specs.Turn.{Grant}
+use Rattle.rules.specs.River.{levelAt}
 use Rattle.rules.specs.Month.{MonthRun, reasonNumber}
 use Rattle.rules.specs.Tally.{reportLength}
 use Rattle.boards.specs.Report.{grantAt, grantNumber, levelNumber, rowsFrom, reservoirsFrom, reportPlace, reportOf, nameIn}

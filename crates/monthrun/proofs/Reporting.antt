@@ -1,24 +1,24 @@
 -- The report that a month leaves, place by place. Assumes nothing.
-use mathlib.Core.Bool.{Bool, true, false, cond}
-use mathlib.Core.List.{List, [], _∷_, _++_}
+use mathlib.Core.Bool.{Bool, true}
+use mathlib.Core.List.{List}
 use mathlib.Core.Path.{_≡_, refl, sym, ap, _∙_, subst}
-use Prim.Native.Nat.{ℕ, zero, suc, _+_, _-_, _*_, _/_, _%_, _≤_, _<_}
+use Prim.Native.Nat.{ℕ, _+_, _-_, _*_, _/_, _%_, _≤_, _<_}
 use native.Mathlib.Decide.{decLt}
 use native.Mathlib.Omega.{arith}
 use lib.ListN.{length, getD, drop, length-append, length-drop}
 use lib.Seq.{ext-getD, getD-drop}
-use lib.IntN.{ℤ, pos, natAbs}
+use lib.IntN.{natAbs}
 use Rattle.general.specs.Tables.{tab}
 use Rattle.general.specs.Tests.{has}
 use Rattle.general.proofs.Tables.{tab-length, tab-at}
 use Rattle.rules.specs.Basin.{Basin, rows}
 use Rattle.rules.specs.River.{Level, levelAt, dry}
-use Rattle.rules.specs.Turn.{State, Grant, Turn}
+use Rattle.rules.specs.Turn.{State, Turn}
 use Rattle.rules.specs.Month.{MonthRun, opening, reasonNumber, shortCount}
 use Rattle.rules.specs.Tally.{reportLength}
 use Rattle.records.specs.Records.{reservoirCount}
 use Rattle.river.specs.Arrays.{rowLevel, levelsOf}
-use Rattle.turns.specs.Lines.{grantAt as turnGrant, LinesTo, turnsFrom, Served}
+use Rattle.turns.specs.Lines.{LinesTo, Served}
 use Rattle.monthends.specs.Losses.{Lost}
 use Rattle.turns.specs.State.{stateOf, Setting}
 use Rattle.turns.proofs.Facts.{reservoirs-count}

@@ -1,38 +1,35 @@
 -- A month from its first step to its last, at what the code has in hand. Assumes nothing.
 use mathlib.Core.Bool.{Bool, true, false, cond}
-use mathlib.Core.List.{List, [], _∷_, _++_}
+use mathlib.Core.List.{List, []}
 use mathlib.Core.Path.{_≡_, refl, sym, ap, _∙_, subst}
-use Prim.Native.Nat.{ℕ, zero, suc, _+_, _-_, _*_, _/_, _%_, _^_, _≤_, _<_}
+use Prim.Native.Nat.{ℕ, suc, _+_, _-_, _*_, _/_, _%_, _≤_, _<_}
 use native.Mathlib.Decide.{decLt}
 use native.Mathlib.Omega.{arith}
 use lib.Dec.{ltb, eqb}
 use lib.ListN.{length, getD, set, replicate, length-replicate, List·getD-append, List·getD-eq-default}
-use Rattle.general.specs.Sums.{only}
 use Rattle.general.specs.Tables.{tab}
-use Rattle.general.proofs.Lists.{getD-zeros, all-at-place}
+use Rattle.general.proofs.Lists.{getD-zeros}
 use Rattle.general.proofs.Tables.{tab-length}
 use Rattle.general.proofs.Tests.{only-le}
-use Rattle.rules.specs.Accepted.{Accepted, GoodReservoir, GoodRight}
-use Rattle.rules.specs.Basin.{Basin, Reservoir, Right, noReservoir, noRight, rows, reservoirAt, rightAt}
+use Rattle.rules.specs.Accepted.{Accepted}
+use Rattle.rules.specs.Basin.{Basin, rows}
 use Rattle.rules.specs.Month.{opening, nextMonth}
 use Rattle.rules.specs.Theorems.{mostDue}
-use Rattle.rules.specs.Turn.{State}
-use Rattle.records.specs.Records.{rowsOf, stationsOf, reservoirCount, reservoirsOf, rightCount, rightsOf, patternCount, patternOf, patternsOf, sixteenPatterns}
+use Rattle.records.specs.Records.{rowsOf, stationsOf, reservoirCount, rightCount, patternCount, patternOf, patternsOf, sixteenPatterns}
 use Rattle.records.specs.Table.{tableOf}
 use Rattle.records.proofs.Rows.{rows-are}
-use Rattle.returns.specs.Dues.{Roomy}
 use Rattle.turns.specs.Lines.{CanServe, Served}
 use Rattle.monthends.specs.Losses.{Lost}
-use Rattle.monthends.specs.Opening.{mostInflow, inflow, CanGather, Gathered, openedAt, openedBoard}
-use Rattle.returns.specs.Returning.{dueIn, RiverOk, BoardOk}
+use Rattle.monthends.specs.Opening.{CanGather, Gathered, openedAt}
+use Rattle.returns.specs.Returning.{BoardOk}
 use Rattle.turns.specs.State.{stateOf, Setting, Within}
 use Rattle.turns.proofs.Facts.{downhill, path-in}
 use Rattle.monthends.proofs.Openings.{gathered-river, opening-is, opened-length, opened-place}
 use Rattle.boards.specs.Bodies.{bodies}
-use Rattle.boards.specs.Board.{monthAt, storageAt, marksAt, takenAt, dueAt, carriedOf, possible}
+use Rattle.boards.specs.Board.{monthAt, dueAt, carriedOf, possible}
 use Rattle.boards.specs.Report.{rowsFrom}
-use Rattle.steps.specs.Steps.{mostRunoff, RowsTold, CanEnd, Ended, CanRun, Ran}
-use Rattle.boards.proofs.Bodies.{reservoirs-are, rights-are, due-read, marks-small}
+use Rattle.steps.specs.Steps.{CanEnd, Ended, CanRun, Ran}
+use Rattle.boards.proofs.Bodies.{reservoirs-are, rights-are, marks-small}
 use Rattle.monthrun.proofs.Opened.{opened, opened-month, opened-storage, opened-taken, state-opened}
 use Rattle.boards.proofs.Bounds.{month-most, storage-most, marks-most, taken-most, due-most, capacity-most, limit-most}
 use Rattle.monthrun.proofs.Closing.{board-left}

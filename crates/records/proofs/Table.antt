@@ -18,7 +18,6 @@ use Rattle.general.proofs.Tests.{ltb-yes, ltb-no, lt-of}
 use Rattle.rules.specs.Basin.{Station}
 use Rattle.rules.specs.Path.{rowBelow, path}
 use Rattle.rules.proofs.Path.{below-later}
-use Rattle.records.specs.declared.network.Below.{Below}
 use Rattle.records.specs.declared.network.Below.the-variants.{Row, Nothing}
 use Rattle.records.specs.Records.{rowsOf, stationsOf}
 use Rattle.records.specs.Network.{belowOf}

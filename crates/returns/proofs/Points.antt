@@ -1,5 +1,4 @@
 -- One return point after another. Assumes nothing.
-use mathlib.Core.Bool.{Bool, true, false}
 use mathlib.Core.List.{List, [], _∷_, _++_}
 use mathlib.Core.Path.{_≡_, refl, sym, ap, _∙_}
 use Prim.Native.Nat.{ℕ, zero, suc, _+_, _-_, _*_, _/_, _≤_, _<_}
@@ -17,11 +16,11 @@ use Rattle.rules.specs.River.{Level, along, returned}
 use Rattle.rules.specs.Returns.{shares, Part, lagged, returnedAt}
 use Rattle.records.specs.Records.{returnRow, returnPercent}
 use Rattle.records.specs.Table.{pathBy}
-use Rattle.river.specs.Arrays.{levelsOf, Room, CanReturn, Walked}
+use Rattle.river.specs.Arrays.{levelsOf, CanReturn, Walked}
 use Rattle.river.proofs.Table.{by-in}
 use Rattle.river.proofs.Levels.{change-idle, returned-read, returned-zero}
-use Rattle.returns.specs.Dues.{mostAmount, roomy, Roomy, Whole, CanSplit, Lagged}
-use Rattle.returns.specs.Returning.{dueIn, pointsUpTo, partIn, partsIn, returnBy, RiverOk, BoardOk, PointsOk, CanGive, Gave}
+use Rattle.returns.specs.Dues.{mostAmount, roomy, Lagged}
+use Rattle.returns.specs.Returning.{dueIn, pointsUpTo, partIn, partsIn, returnBy, RiverOk, Gave}
 use Rattle.returns.proofs.Shares.{lagged-le, share-le}
 
 -- ---- lists of parts, one more

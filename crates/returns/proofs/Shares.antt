@@ -3,17 +3,17 @@ use mathlib.Core.List.{List, [], _∷_}
 use mathlib.Core.Path.{_≡_, refl, sym, ap, _∙_}
 use Prim.Native.Nat.{ℕ, zero, suc, _+_, _-_, _*_, _/_, _≤_, _<_}
 use native.Mathlib.Numerals.{add-one}
-use native.Mathlib.Nat.{add-assoc, add-zero}
+use native.Mathlib.Nat.{add-zero}
 use native.Mathlib.Omega.{arith}
 use native.Mathlib.Decide.{decLt}
 use lib.ListN.{length, getD, set, length-set}
 use lib.Seq.{getD-set-same, getD-set-other, set-getD}
 use Rattle.general.specs.Sums.{sumOver, sum, sumTo}
-use Rattle.general.proofs.Sums.{sumTo-front, sumTo-list, at-le-sum}
+use Rattle.general.proofs.Sums.{sumTo-front, at-le-sum}
 use Rattle.general.proofs.Tests.{by-eqb}
 use Rattle.rules.specs.Returns.{sharesFrom, shares}
 use Rattle.rules.proofs.Splits.{shares-sum}
-use Rattle.returns.specs.Dues.{mostAmount, roomy, Roomy, CanAddShare, Whole, CanSplit, Lagged}
+use Rattle.returns.specs.Dues.{Lagged}
 
 -- the sum of the first k percents
 abbrev pub upTo : List ℕ → ℕ → ℕ

@@ -1,11 +1,10 @@
 -- What the program lends to each month, from the fresh board on. Assumes nothing.
-use mathlib.Core.Bool.{Bool, true}
+use mathlib.Core.Bool.{true}
 use mathlib.Core.List.{List, [], _∷_}
 use mathlib.Core.Path.{_≡_, refl, sym, ap, _∙_, subst}
 use Prim.Native.Nat.{ℕ, zero, suc, _+_, _*_, _≤_, _<_}
 use native.Mathlib.Omega.{arith}
 use lib.ListN.{length, getD, take}
-use Rattle.general.specs.Tables.{tab}
 use Rattle.general.proofs.Tables.{tab-length, tab-at}
 use Rattle.rules.specs.Accepted.{Accepted}
 use Rattle.rules.specs.Basin.{Basin, rows}
@@ -21,7 +20,6 @@ use Rattle.records.proofs.Rows.{rows-are}
 use Rattle.boards.specs.Board.{possible}
 use Rattle.boards.specs.Bodies.{bodies, startBoard}
 use Rattle.boards.specs.Calls.{Outcome}
-use Rattle.ledger.specs.Demand3.{tallyBoard}
 use Rattle.boards.specs.Report.{reservoirsFrom}
 use Rattle.steps.specs.Steps.{CanGoOn, WentOn}
 use Rattle.boards.proofs.Bodies.{basin-bodies, reservoirs-are, rights-are, start-length, fresh-here}

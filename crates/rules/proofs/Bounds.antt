@@ -1,9 +1,9 @@
 -- Bounds: a grant is at most its amount, a storage at most the capacity, water taken at most the limit, what is due at most 01's bound. Assumes nothing.
-use mathlib.Core.Path.{_≡_, refl, sym, ap, _∙_}
+use mathlib.Core.Path.{_≡_, ap, _∙_}
 use mathlib.Core.Bool.{Bool, true, false, not, cond, _&&_}
 use mathlib.Core.List.{List, [], _∷_, _++_}
 use mathlib.Core.Option.{Option, none, some}
-use Prim.Native.Nat.{ℕ, zero, suc, _+_, _-_, _*_, _≤_, _<_, min}
+use Prim.Native.Nat.{ℕ, suc, _+_, _-_, _*_, _≤_, _<_, min}
 use native.Mathlib.Nat.{le-trans, zero-add}
 use native.Mathlib.Omega.{arith}
 use native.Mathlib.Decide.{decLt}
@@ -12,14 +12,14 @@ use lib.ListN.{length, getD, set, replicate, length-set, length-replicate, lengt
 use Rattle.general.specs.Sums.{sumOver, only}
 use Rattle.general.specs.Tables.{tab, All}
 use Rattle.general.proofs.Tests.{by-eqb, only-le}
-use Rattle.general.proofs.Lists.{set-within, getD-zeros, length-cond, all-at-place, all-from}
+use Rattle.general.proofs.Lists.{set-within, getD-zeros, length-cond, all-at-place}
 use Rattle.general.proofs.Tables.{tab-at, tab-past}
 use Rattle.rules.specs.Basin.{Reservoir, Kind, direct, project, instream, storage, Right, Basin, noReservoir, noRight, reservoirAt, rightAt, reservoirOf}
 use Rattle.rules.specs.River.{availableAt, lowest, lesser}
-use Rattle.rules.specs.Turn.{State, pathOf, storageOf, markOf, bit, scheduled, demand, called, divertible, riverPart, withLevels, riverStage, storagePart, storageStage, returnStage, Grant, granted, Turn, turn}
+use Rattle.rules.specs.Turn.{State, pathOf, storageOf, markOf, bit, scheduled, demand, called, divertible, riverPart, withLevels, riverStage, storagePart, storageStage, returnStage, granted, Turn, turn}
 use Rattle.rules.specs.Month.{Carried, opening, turns, afterTurns, returnedBy, returnsAt, evaporations, evaporated, MonthRun, nextMonth, month}
 use Rattle.rules.specs.Tally.{Call, Answer, refusal, Tally, freshCarried, fresh, pending, arriving, nextRun, accept, afterJudged, afterCall, afterCalls}
-use Rattle.rules.specs.Accepted.{Connected, GoodReservoir, GoodRight, Accepted}
+use Rattle.rules.specs.Accepted.{GoodReservoir, GoodRight, Accepted}
 use Rattle.rules.specs.Theorems.{mostDue, Possible}
 use Rattle.rules.proofs.River.{lesser-le}
 use Rattle.rules.proofs.Splits.{returned-le}

@@ -1,9 +1,8 @@
 -- The list marked M and the cases beside it, computed. Assumes nothing.
-use mathlib.Core.Path.{_≡_, refl}
-use mathlib.Core.Bool.{Bool, true, false}
-use Prim.Native.Nat.{ℕ, _/_, _%_, _^_}
+use mathlib.Core.Path.{refl}
+use Prim.Native.Nat.{_^_}
 use native.Mathlib.Nat.{zero-div}
-use Rattle.general.specs.Sums.{sumOver, sumOverℤ, sumTo, sumToℤ}
+use Rattle.general.specs.Sums.{sumOver, sumOverℤ, sumTo}
 use Rattle.general.specs.Tables.{tab}
 use Rattle.general.specs.Routes.{follow}
 use Rattle.general.specs.Tests.{_and_, has, firstAt}
@@ -14,7 +13,7 @@ use Rattle.rules.specs.Turn.{bit, scheduled, demand, anyOn, called, dive
 use Rattle.rules.specs.Month.{gathered, openingLevels, opening, turns, afterTurns, consumedBy, returnedBy, returnsAt, areaFrom, areaAt, evaporation, evaporations, evaporated, nextMonth, month, reasonNumber, isShort, shortCount}
 use Rattle.rules.specs.Tally.{listsFit, overLimit, overAnswer, judged, refusal, freshCarried, fresh, pendingFrom, pending, arriving, nextRun, accept, afterJudged, afterCall, afterCalls, answerJudged, answerOf, answers}
 use Rattle.rules.specs.Water.{totalOutflow, totalConsumption, inTransit}
-use Rattle.rules.specs.Marked.{Marked, Told, Computed}
+use Rattle.rules.specs.Marked.{Computed}
 
 pub computed : Computed
 unfolding sumOver sumOverℤ sumTo tab _and_ has firstAt follow carriesOn rowBelow path untilRow diverted reserved released returned along lowest lesser consumption returning sharesFrom shares partsAt partsOf lagged returnNow returnedAt bit scheduled demand anyOn called divertible riverPart withLevels afterDiversion riverStage storagePart storageStage returnStage shortage reasonOf keepIf lowestOn lowRows numberAt controlling turn gathered openingLevels opening turns afterTurns consumedBy returnedBy returnsAt areaFrom areaAt evaporation evaporations evaporated nextMonth month reasonNumber isShort shortCount listsFit overLimit overAnswer judged refusal freshCarried fresh pendingFrom pending arriving nextRun accept afterJudged afterCall afterCalls answerJudged answerOf answers totalOutflow totalConsumption inTransit

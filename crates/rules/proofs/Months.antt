@@ -1,32 +1,32 @@
 -- The water of a turn, of a list of turns, of a month. Assumes nothing.
-use mathlib.Core.Path.{_≡_, refl, sym, ap, _∙_}
-use mathlib.Core.Bool.{Bool, true, false, cond}
+use mathlib.Core.Path.{_≡_, refl, ap, _∙_}
+use mathlib.Core.Bool.{Bool}
 use mathlib.Core.List.{List, [], _∷_}
-use Prim.Native.Nat.{ℕ, zero, suc, _+_, _-_, _≤_, _<_, min}
+use Prim.Native.Nat.{ℕ, suc, _+_, _-_, _≤_, _<_}
 use native.Mathlib.Omega.{arith}
 use native.Mathlib.Decide.{decLt}
 use lib.Dec.{ltb}
 use lib.ListN.{length, getD}
-use lib.IntN.{ℤ, pos}
+use lib.IntN.{pos}
 use lib.Signed.{≤ℤ-refl}
-use Rattle.general.specs.Sums.{sumOver, sum, sumTo, only}
-use Rattle.general.specs.Tables.{tab, All}
-use Rattle.general.proofs.Signed.{up, dn, signed, le-read, le-make}
+use Rattle.general.specs.Sums.{sumOver, sum, sumTo}
+use Rattle.general.specs.Tables.{All}
+use Rattle.general.proofs.Signed.{up, dn, signed}
 use Rattle.general.proofs.Lists.{all-at-place}
 use Rattle.general.proofs.Sums.{sumTo-same, sumTo-add, sumTo-list, sumTo-add₂, sumTo-zero₂}
-use Rattle.general.proofs.Tables.{tab-length, tab-at, tab-past, sum-tab}
-use Rattle.rules.specs.Basin.{Reservoir, Kind, direct, project, instream, storage, Right, Basin, noReservoir, rows, reservoirAt, reservoirOf, patternOf}
-use Rattle.rules.specs.Path.{path, lastRow}
+use Rattle.general.proofs.Tables.{tab-length, tab-at, tab-past}
+use Rattle.rules.specs.Basin.{Kind, direct, project, instream, storage, Right, Basin, noReservoir, rows, reservoirAt, patternOf}
+use Rattle.rules.specs.Path.{lastRow}
 use Rattle.rules.specs.River.{Level, dry, levelAt, flowAt, Sound}
-use Rattle.rules.specs.Returns.{consumption, partsOf, returnedAt}
-use Rattle.rules.specs.Turn.{State, demand, riverPart, riverStage, storagePart, storageStage, returnStage, Grant, granted, Turn, turn}
+use Rattle.rules.specs.Returns.{partsOf, returnedAt}
+use Rattle.rules.specs.Turn.{State, demand, riverPart, riverStage, storagePart, storageStage, returnStage, granted, Turn, turn}
 use Rattle.rules.specs.Month.{Carried, gathered, openingLevels, opening, turns, afterTurns, consumedBy, returnedBy, returnsAt, evaporation, evaporations, evaporated, MonthRun, month}
 use Rattle.rules.specs.Water.{Checkpoint, TurnSound, MonthSound}
 use Rattle.rules.specs.Accepted.{Connected, GoodReservoir, GoodRight, Accepted}
 use Rattle.rules.proofs.Path.{path-last}
 use Rattle.rules.proofs.River.{AllSound}
-use Rattle.rules.proofs.Splits.{atOnce, later, parts-in, used, all-spent}
-use Rattle.rules.proofs.Stages.{Good, outflow, stored, Balance, Lasts, leaves, RowsIn, river-good, river-fits, river-balance, storage-lasts, storage-good, storage-balance, returns-good, returns-balance}
+use Rattle.rules.proofs.Splits.{later, parts-in, used, all-spent}
+use Rattle.rules.proofs.Stages.{Good, outflow, Balance, Lasts, leaves, RowsIn, river-good, river-fits, river-balance, storage-lasts, storage-good, storage-balance, returns-good, returns-balance}
 
 checkpoint : (b : Basin) (s : State) → Good b s → Checkpoint b s
 checkpoint b s g = record { size = g .size; sound = g .sound }

@@ -1,21 +1,18 @@
 -- Each grant has a station that may be named: 01's one freedom is never an empty one. Assumes nothing.
-use mathlib.Core.Path.{_≡_, refl, sym, ap, _∙_, subst}
+use mathlib.Core.Path.{_≡_, refl, sym, ap, _∙_}
 use mathlib.Core.Bool.{Bool, true, false, cond, _||_}
 use mathlib.Core.List.{List, [], _∷_, map}
-use Prim.Native.Nat.{ℕ, zero, suc, _≤_, _<_}
-use native.Mathlib.Omega.{arith}
-use lib.ListN.{length, getD}
-use lib.IntN.{ℤ}
+use Prim.Native.Nat.{ℕ, suc, _≤_, _<_}
+use lib.ListN.{getD}
 use lib.Signed.{leZ, ≤ℤ-refl}
 use Rattle.general.specs.Tables.{All}
 use Rattle.general.specs.Tests.{has}
 use Rattle.general.proofs.Tests.{absurd-bool, true-of, by-eqb}
 use Rattle.general.proofs.Search.{has-none, has-head, has-tail, has-other}
 use Rattle.rules.specs.Basin.{Kind, direct, project, instream, storage, Right, Basin, rows}
-use Rattle.rules.specs.Path.{path}
-use Rattle.rules.specs.River.{Level, availableAt, lower, lowest}
-use Rattle.rules.specs.Turn.{State, pathOf, anyOn, called, met, calledOut, riverLow, storageOut, shortage, reasonOf, keepIf, lowestOn, lowRows, numberAt, controlling, Turn, turn}
-use Rattle.rules.specs.Month.{Carried, opening, turns, MonthRun, month}
+use Rattle.rules.specs.River.{Level, availableAt, lowest}
+use Rattle.rules.specs.Turn.{State, pathOf, anyOn, called, calledOut, riverLow, storageOut, shortage, reasonOf, keepIf, lowestOn, lowRows, numberAt, controlling, Turn, turn}
+use Rattle.rules.specs.Month.{Carried, opening, turns, month}
 use Rattle.rules.specs.Accepted.{GoodRight, Accepted}
 use Rattle.rules.proofs.Path.{path-head}
 

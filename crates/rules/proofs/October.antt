@@ -1,18 +1,17 @@
 -- 01's October meets what the theorems ask of a basin. Assumes nothing.
 use mathlib.Core.Path.{_≡_, refl}
 use mathlib.Core.Logic.{inl, inr}
-use mathlib.Core.List.{List, [], _∷_}
-use mathlib.Core.Option.{Option, none, some}
+use mathlib.Core.Option.{some}
 use Prim.Native.Nat.{ℕ, zero, suc, _≤_, _<_}
 use native.Mathlib.Omega.{arith}
 use native.Mathlib.Decide.{decLt}
-use lib.ListN.{length, getD, replicate, getD-replicate, length-replicate, List·getD-eq-default}
+use lib.ListN.{getD, replicate, getD-replicate, length-replicate, List·getD-eq-default}
 use Rattle.general.specs.Sums.{sumOver}
 use Rattle.general.specs.Routes.{follow}
 use Rattle.general.specs.Tests.{has, firstAt}
-use Rattle.rules.specs.Basin.{Reservoir, Right, direct, project}
+use Rattle.rules.specs.Basin.{direct, project}
 use Rattle.rules.specs.Path.{carriesOn, rowBelow, path}
-use Rattle.rules.specs.Accepted.{Connected, GoodReservoir, GoodRight, Accepted, Unreturned, Returned}
+use Rattle.rules.specs.Accepted.{GoodReservoir, GoodRight, Accepted}
 use Rattle.rules.specs.October.{plainRight, storageRight, returningRight, octoberStations, octoberReservoir, october}
 
 below : (r : ℕ) → suc r < 3 → (q : ℕ) × (rowBelow octoberStations r ≡ some q)

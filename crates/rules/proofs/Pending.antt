@@ -1,13 +1,12 @@
 -- Pending returns, one month on. Assumes nothing.
-use mathlib.Core.Path.{_≡_, refl, sym, ap, _∙_}
+use mathlib.Core.Path.{_≡_, refl, _∙_}
 use mathlib.Core.List.{List, [], _∷_, _++_}
-use Prim.Native.Nat.{ℕ, zero, suc, _+_, _≤_, _<_}
+use Prim.Native.Nat.{ℕ, suc, _+_, _≤_, _<_}
 use native.Mathlib.Nat.{add-zero, add-suc, suc-add}
 use native.Mathlib.Omega.{arith}
 use lib.Dec.{eqb}
 use lib.ListN.{length, getD, length-append}
 use Rattle.general.specs.Sums.{sumTo, only}
-use Rattle.general.specs.Tables.{tab}
 use Rattle.general.proofs.Sums.{sumTo-same, sumTo-add, sumTo-miss, sumTo-pick, sumTo-zero₂}
 use Rattle.general.proofs.Tables.{tab-at}
 use Rattle.rules.specs.Basin.{Basin, rows}

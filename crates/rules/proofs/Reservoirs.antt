@@ -1,22 +1,20 @@
 -- A reservoir's storage, by the grants. Assumes nothing.
-use mathlib.Core.Path.{_≡_, refl, sym, ap, _∙_}
+use mathlib.Core.Path.{_≡_}
 use mathlib.Core.List.{List, [], _∷_}
-use Prim.Native.Nat.{ℕ, zero, suc, _+_, _-_, _≤_, _<_}
+use Prim.Native.Nat.{ℕ, suc, _+_, _-_, _≤_, _<_}
 use native.Mathlib.Omega.{arith}
 use native.Mathlib.Decide.{decLt}
-use lib.Dec.{eqb}
 use lib.ListN.{length, getD, List·getD-eq-default}
-use Rattle.general.specs.Sums.{sumOver, only}
+use Rattle.general.specs.Sums.{sumOver}
 use Rattle.general.specs.Tables.{All}
 use Rattle.general.proofs.Lists.{set-raised, set-lowered}
-use Rattle.general.proofs.Tables.{tab-past}
 use Rattle.rules.specs.Basin.{Kind, direct, project, instream, storage, Right, Basin}
-use Rattle.rules.specs.Turn.{State, demand, riverPart, withLevels, riverStage, storagePart, storageStage, returnStage, Grant, Turn, turn}
-use Rattle.rules.specs.Month.{Carried, opening, turns, afterTurns, evaporations, evaporated, MonthRun, month}
+use Rattle.rules.specs.Turn.{State, demand, riverPart, withLevels, riverStage, storageStage, returnStage, Turn, turn}
+use Rattle.rules.specs.Month.{Carried, opening, turns, afterTurns, evaporations, evaporated, month}
 use Rattle.rules.specs.Water.{storedBy, drawnBy, storedIn, drawnFrom}
 use Rattle.rules.specs.Accepted.{Connected, ReservoirOk, GoodRight, Accepted}
 use Rattle.rules.proofs.Stages.{Good, Lasts, RowsIn, river-good, river-fits, storage-lasts}
-use Rattle.rules.proofs.Months.{turn-ok, TurnsOk, turns-ok, MonthOk, month-ok, evaporated-at, evaporations-length, evaporated-length, reservoir-rows}
+use Rattle.rules.proofs.Months.{turn-ok, MonthOk, month-ok, evaporated-at, evaporations-length, evaporated-length, reservoir-rows}
 
 module _ (b : Basin) (c : Connected b) (v : ℕ) where
   river-entry : (k : Kind) (i : ℕ) (t : Turn) (s : State) → ReservoirOk k b (t .right) → Good b s

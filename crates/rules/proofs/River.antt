@@ -1,21 +1,19 @@
 -- Laws of the levels: a change along a path, the lowest available flow, and 0 ≤ available flow ≤ flow. Assumes nothing.
-use mathlib.Core.Path.{_≡_, refl, sym, ap, _∙_}
-use mathlib.Core.Logic.{_≢_}
+use mathlib.Core.Path.{_≡_, refl, sym, _∙_}
 use mathlib.Core.Bool.{Bool, true, false, cond}
 use mathlib.Core.List.{List, [], _∷_}
-use Prim.Native.Nat.{ℕ, zero, suc, _+_, _≤_, _<_, min}
+use Prim.Native.Nat.{ℕ, _≤_, _<_, min}
 use native.Mathlib.Omega.{arith}
 use native.Mathlib.Decide.{decLt}
-use lib.ListN.{length, getD, List·getD-eq-default}
-use lib.IntN.{ℤ, pos, negsuc, _+ℤ_, _-ℤ_}
+use lib.ListN.{length, List·getD-eq-default}
+use lib.IntN.{ℤ, pos, negsuc}
 use lib.Signed.{_≤ℤ_, leZ, leZ-yes, ≤ℤ-refl}
-use Rattle.general.specs.Tables.{tab}
 use Rattle.general.specs.Tests.{has}
-use Rattle.general.proofs.Signed.{up, dn, signed, le-read, le-make, eq-make, le-not, le-transℤ, lower-law, raise-law}
+use Rattle.general.proofs.Signed.{signed, eq-make, le-not, le-transℤ, lower-law, raise-law}
 use Rattle.general.proofs.Tests.{absurd-bool, by-eqb, T-of}
 use Rattle.general.proofs.Search.{has-none, has-other}
 use Rattle.general.proofs.Tables.{tab-length, tab-at}
-use Rattle.rules.specs.River.{Level, dry, levelAt, flowAt, availableAt, diverted, reserved, released, returned, along, lower, lowest, lesser, Sound}
+use Rattle.rules.specs.River.{Level, dry, levelAt, availableAt, diverted, reserved, released, returned, along, lower, lowest, lesser, Sound}
 
 -- ---- a change along a path
 

@@ -1,9 +1,8 @@
 -- Laws of shares, and of a diversion's parts over rows and months. Assumes nothing.
 use mathlib.Core.Path.{_≡_, refl, sym, ap, _∙_}
 use mathlib.Core.Logic.{_⊎_, inl, inr}
-use mathlib.Core.Bool.{Bool, true, false}
-use mathlib.Core.List.{List, [], _∷_, map}
-use Prim.Native.Nat.{ℕ, zero, suc, _+_, _-_, _*_, _/_, _≤_, _<_}
+use mathlib.Core.List.{List, [], _∷_}
+use Prim.Native.Nat.{ℕ, suc, _+_, _-_, _*_, _/_, _≤_, _<_}
 use native.Mathlib.Nat.{mul-le-mul-left}
 use native.Mathlib.Omega.{arith}
 use lib.Dec.{eqb}
@@ -11,7 +10,7 @@ use lib.ListN.{length, getD, length-map}
 use Rattle.general.specs.Sums.{sumOver, sum, sumTo, only}
 use Rattle.general.specs.Tables.{All}
 use Rattle.general.proofs.Tests.{only-le}
-use Rattle.general.proofs.Sums.{at-le-sum, sumTo-same, sumTo-add, sumTo-zero, sumTo-only, sumTo-front, sumTo-list, sumTo-one, sumTo-zero₂}
+use Rattle.general.proofs.Sums.{at-le-sum, sumTo-same, sumTo-add, sumTo-only, sumTo-front, sumTo-list, sumTo-one, sumTo-zero₂}
 use Rattle.rules.specs.Basin.{Point, Kind, direct, project, instream, storage, Right, Basin, rows, patternOf}
 use Rattle.rules.specs.Returns.{consumption, returning, sharesFrom, shares, Part, partsAt, percents, partsOf, lagged, returnedAt}
 use Rattle.rules.specs.Accepted.{Unreturned, Returned, ReturnsOk}

@@ -1,10 +1,10 @@
 -- What each stage of a right's turn does to the water. Assumes nothing.
-use mathlib.Core.Path.{_≡_, refl, sym, ap, _∙_}
+use mathlib.Core.Path.{_≡_, refl, ap, _∙_}
 use mathlib.Core.Bool.{Bool, true, false, not, cond}
 use mathlib.Core.List.{List, [], _∷_}
-use Prim.Native.Nat.{ℕ, zero, suc, _+_, _-_, _≤_, _<_, min}
+use Prim.Native.Nat.{ℕ, _+_, _-_, _≤_, _<_}
 use native.Mathlib.Omega.{arith}
-use lib.ListN.{length, getD, set, length-set}
+use lib.ListN.{length, length-set}
 use lib.IntN.{ℤ, pos, _-ℤ_}
 use lib.Signed.{_≤ℤ_}
 use Rattle.general.specs.Sums.{sumOver, sum, only}
@@ -15,10 +15,10 @@ use Rattle.general.proofs.Search.{has-single}
 use Rattle.general.proofs.Sums.{sum-set}
 use Rattle.rules.specs.Basin.{Kind, direct, project, instream, storage, Right, Basin, rows, reservoirOf, patternOf}
 use Rattle.rules.specs.Path.{path, untilRow, lastRow}
-use Rattle.rules.specs.River.{Level, dry, levelAt, flowAt, availableAt, diverted, reserved, released, returned, along, lowest, lesser, Sound}
+use Rattle.rules.specs.River.{Level, levelAt, flowAt, availableAt, diverted, reserved, released, returned, along, lowest, lesser}
 use Rattle.rules.specs.Returns.{Part, partsOf, lagged, returnNow}
 use Rattle.rules.specs.Turn.{State, pathOf, storageOf, called, divertible, riverPart, withLevels, afterDiversion, riverStage, storagePart, storageStage, returnStage}
-use Rattle.rules.specs.Accepted.{Connected, GoodReservoir, ReservoirOk}
+use Rattle.rules.specs.Accepted.{Connected, ReservoirOk}
 use Rattle.rules.proofs.Path.{path-last, path-until}
 use Rattle.rules.proofs.River.{along-at, along-length, AllSound, diverted-along, reserved-along, released-along, returned-along, lesser-fits, diversion-fits}
 use Rattle.rules.proofs.Splits.{atOnce, PartsIn}

@@ -1,28 +1,27 @@
 -- The water of a list of calls. Assumes nothing.
-use mathlib.Core.Path.{_≡_, refl, sym, ap, _∙_}
+use mathlib.Core.Path.{_≡_, refl, ap, _∙_}
 use mathlib.Core.Bool.{Bool, true, false}
-use mathlib.Core.List.{List, [], _∷_, _++_, map}
+use mathlib.Core.List.{List, [], _∷_, _++_}
 use mathlib.Core.Option.{Option, none, some}
-use Prim.Native.Nat.{ℕ, zero, suc, _+_, _-_, _≤_, _<_}
+use Prim.Native.Nat.{ℕ, _+_, _-_}
 use native.Mathlib.Omega.{arith}
 use lib.ListN.{length, getD, length-map, List·getD-map}
 use lib.IntN.{ℤ, pos, _+ℤ_, _-ℤ_}
-use Rattle.general.specs.Sums.{sumOver, sumOverℤ, sum, sumTo, sumToℤ, only}
+use Rattle.general.specs.Sums.{sumOver, sumOverℤ, sum}
 use Rattle.general.specs.Tables.{All}
 use Rattle.general.proofs.Signed.{up, dn, add-law, eq-make, lower-law}
 use Rattle.general.proofs.Tests.{eq-of, both-of}
 use Rattle.general.proofs.Lists.{all-append}
 use Rattle.general.proofs.Sums.{sum-append, sumℤ-append, sum-map, sumTo-add, sumTo-list, sumToℤ-pos}
-use Rattle.rules.specs.Basin.{Reservoir, Right, Basin, noReservoir, rows, reservoirAt}
+use Rattle.rules.specs.Basin.{Reservoir, Basin, noReservoir, rows, reservoirAt}
 use Rattle.rules.specs.Path.{lastRow}
 use Rattle.rules.specs.River.{flowAt}
-use Rattle.rules.specs.Turn.{Turn}
 use Rattle.rules.specs.Month.{consumedBy, MonthRun, month}
-use Rattle.rules.specs.Tally.{Call, Answer, listsFit, judged, refusal, Tally, freshCarried, fresh, pending, arriving, nextRun, accept, afterJudged, afterCall, afterCalls}
+use Rattle.rules.specs.Tally.{Call, Answer, listsFit, judged, refusal, Tally, freshCarried, fresh, arriving, nextRun, accept, afterJudged, afterCall, afterCalls}
 use Rattle.rules.specs.Water.{totalRunoff, totalOutflow, totalConsumption, totalEvaporation, inTransit, startingStorage, storedIn, drawnFrom, totalStored, totalDrawn, totalLost, storageNow, allStorageNow, MonthSound, WaterKept}
 use Rattle.rules.specs.Accepted.{Accepted}
 use Rattle.rules.proofs.Stages.{outflow}
-use Rattle.rules.proofs.Months.{laterAll, MonthOk, month-ok}
+use Rattle.rules.proofs.Months.{MonthOk, month-ok}
 use Rattle.rules.proofs.Reservoirs.{month-entry}
 use Rattle.rules.proofs.Pending.{transit-on, transit-none, arriving-sum}
 

@@ -1,9 +1,9 @@
 -- What a basin that the file check accepts must provide to the rules: one record of plain facts.
 use mathlib.Core.Path.{_≡_}
-use mathlib.Core.Bool.{Bool, true}
-use mathlib.Core.List.{List, [], _∷_}
+use mathlib.Core.Bool.{true}
+use mathlib.Core.List.{[]}
 use mathlib.Core.Logic.{_⊎_}
-use mathlib.Core.Option.{Option, some}
+use mathlib.Core.Option.{some}
 use Prim.Native.Nat.{ℕ, suc, _≤_, _<_}
 use lib.ListN.{length, getD}
 use Rattle.general.specs.Sums.{sum}

@@ -1,5 +1,5 @@
 -- A basin as plain records, once its file is decoded (01, "The basin file"). A unit is 1/100 acre-foot; month 0 is October.
-use mathlib.Core.List.{List, [], _∷_}
+use mathlib.Core.List.{List, []}
 use Prim.Native.Nat.{ℕ}
 use lib.ListN.{length, getD}
 

@@ -1,21 +1,21 @@
 -- 01's list marked M, as one claim: each field is an item. After it, as a second claim, small cases that October does not tell apart from a slip.
 use mathlib.Core.Path.{_≡_}
-use mathlib.Core.Bool.{Bool, true, false}
-use mathlib.Core.List.{List, [], _∷_, map}
-use mathlib.Core.Option.{Option, some}
+use mathlib.Core.Bool.{true, false}
+use mathlib.Core.List.{List, [], _∷_}
+use mathlib.Core.Option.{some}
 use Prim.Native.Nat.{ℕ, suc}
-use lib.ListN.{replicate, getD}
-use lib.IntN.{ℤ, pos}
+use lib.ListN.{replicate}
+use lib.IntN.{pos}
 use Rattle.general.specs.Tables.{tab}
-use Rattle.rules.specs.Basin.{Station, Survey, Reservoir, Kind, direct, project, instream, storage, Right, Basin}
+use Rattle.rules.specs.Basin.{Station, Reservoir, direct, project, Basin}
 use Rattle.rules.specs.Path.{rowBelow, path}
 use Rattle.rules.specs.River.{Level}
 use Rattle.rules.specs.Returns.{consumedAt, shares}
 use Rattle.rules.specs.Turn.{State, met, calledOut, riverLow, storageOut, Grant, scheduled}
-use Rattle.rules.specs.Month.{Carried, opening, grantsOf, areaAt, MonthRun}
-use Rattle.rules.specs.Tally.{Call, Answer, Tally, fresh, pending, nextRun, afterCalls, answers}
-use Rattle.rules.specs.Water.{totalOutflow, totalConsumption, totalEvaporation, inTransit}
-use Rattle.rules.specs.October.{allMonths, plainRight, storageRight, returningRight, octoberStations, octoberReservoir, october, octoberCall}
+use Rattle.rules.specs.Month.{opening, grantsOf, areaAt, MonthRun}
+use Rattle.rules.specs.Tally.{Call, Tally, fresh, pending, nextRun, afterCalls, answers}
+use Rattle.rules.specs.Water.{totalOutflow, totalConsumption, inTransit}
+use Rattle.rules.specs.October.{plainRight, storageRight, returningRight, octoberStations, octoberReservoir, october, octoberCall}
 
 abbrev pub level : ℕ → ℕ → Level
 level flow available = record { flow = pos flow; available = pos available }

@@ -1,5 +1,5 @@
 -- One month: steps 1 to 5 of 01.
-use mathlib.Core.Bool.{Bool, true, false, not, cond}
+use mathlib.Core.Bool.{Bool, false, not, cond}
 use mathlib.Core.List.{List, [], _∷_, map}
 use Prim.Native.Nat.{ℕ, suc, _+_, _-_, _*_, min}
 use lib.Dec.{leb, eqb}
@@ -11,7 +11,7 @@ use Rattle.general.specs.Tests.{has}
 use Rattle.rules.specs.Basin.{Survey, Reservoir, Right, Basin, rows, reservoirAt, patternOf}
 use Rattle.rules.specs.Path.{path}
 use Rattle.rules.specs.River.{Level}
-use Rattle.rules.specs.Returns.{consumption, Part, partsOf, returnedAt}
+use Rattle.rules.specs.Returns.{consumption, partsOf, returnedAt}
 use Rattle.rules.specs.Turn.{State, Reason, met, calledOut, riverLow, storageOut, Grant, granted, Turn, turn}
 
 -- What is carried from month to month, but for the returns on their way: the next month m, storages, filled marks, water taken this year.

@@ -2,7 +2,7 @@
 use mathlib.Core.List.{List, [], _∷_}
 use Prim.Native.Nat.{ℕ}
 use lib.ListN.{replicate}
-use Rattle.rules.specs.Basin.{Station, Survey, Reservoir, Point, Kind, direct, project, instream, storage, Right, Basin}
+use Rattle.rules.specs.Basin.{Station, Reservoir, Kind, direct, project, storage, Right, Basin}
 use Rattle.rules.specs.Tally.{Call}
 
 abbrev pub allMonths : ℕ

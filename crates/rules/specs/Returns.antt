@@ -1,5 +1,4 @@
 -- What a diversion consumes, and where and when the rest returns (01, step 3, kinds 1 and 2).
-use mathlib.Core.Bool.{Bool, true, false}
 use mathlib.Core.List.{List, [], _∷_, map}
 use Prim.Native.Nat.{ℕ, _+_, _-_, _*_, _/_}
 use lib.Dec.{eqb}

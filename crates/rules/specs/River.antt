@@ -1,6 +1,5 @@
 -- The river's two numbers at each row, with a sign: its flow, and the flow still available to later rights.
-use mathlib.Core.Path.{_≡_}
-use mathlib.Core.Bool.{Bool, true, false, cond}
+use mathlib.Core.Bool.{cond}
 use mathlib.Core.List.{List, [], _∷_}
 use Prim.Native.Nat.{ℕ, min}
 use lib.ListN.{length, getD}

@@ -2,14 +2,13 @@
 use mathlib.Core.Bool.{Bool, true, false}
 use mathlib.Core.List.{List, [], _∷_, _++_, map}
 use mathlib.Core.Option.{Option, none, some}
-use Prim.Native.Nat.{ℕ, zero, suc, _+_, _*_}
+use Prim.Native.Nat.{ℕ, suc, _+_, _*_}
 use lib.Dec.{leb, ltb, eqb}
 use lib.ListN.{length, getD, replicate}
 use Rattle.general.specs.Sums.{sumTo, only}
 use Rattle.general.specs.Tables.{tab}
 use Rattle.general.specs.Tests.{_and_, firstAt}
-use Rattle.rules.specs.Basin.{Reservoir, Right, Basin, rows}
-use Rattle.rules.specs.Turn.{Turn}
+use Rattle.rules.specs.Basin.{Reservoir, Basin, rows}
 use Rattle.rules.specs.Month.{Carried, returnsAt, MonthRun, month, shortCount}
 
 pub record Call : Type 0 where

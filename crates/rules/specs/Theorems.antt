@@ -1,12 +1,12 @@
 -- What is proved of the rules, each statement on its own. The proofs stand in proofs/Theorems.antt under the same names, in small letters.
 use mathlib.Core.Path.{_≡_}
-use mathlib.Core.Bool.{Bool, true, false}
+use mathlib.Core.Bool.{false}
 use mathlib.Core.List.{List, [], _∷_, _++_}
 use Prim.Native.Nat.{ℕ, suc, _+_, _-_, _*_, _≤_, _<_}
 use lib.ListN.{length, getD}
-use lib.IntN.{ℤ, pos}
+use lib.IntN.{pos}
 use Rattle.general.specs.Sums.{sum}
-use Rattle.general.specs.Tables.{All, Rising}
+use Rattle.general.specs.Tables.{Rising}
 use Rattle.general.specs.Tests.{has}
 use Rattle.rules.specs.Basin.{Right, Basin, rows, reservoirAt, rightAt}
 use Rattle.rules.specs.Path.{path, untilRow, lastRow}

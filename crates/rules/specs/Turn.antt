@@ -4,13 +4,12 @@ use mathlib.Core.List.{List, [], _∷_, map}
 use Prim.Native.Nat.{ℕ, _+_, _-_, _/_, _%_, _^_, min}
 use lib.Dec.{ltb, eqb}
 use lib.ListN.{getD, set}
-use lib.IntN.{ℤ}
 use lib.Signed.{leZ}
 use Rattle.general.specs.Sums.{only}
-use Rattle.rules.specs.Basin.{Station, Reservoir, Kind, direct, project, instream, storage, Right, Basin, stationAt, reservoirOf, patternOf}
+use Rattle.rules.specs.Basin.{Station, Kind, direct, project, instream, storage, Right, Basin, stationAt, reservoirOf, patternOf}
 use Rattle.rules.specs.Path.{path, untilRow}
 use Rattle.rules.specs.River.{Level, availableAt, diverted, reserved, released, along, lowest, lesser}
-use Rattle.rules.specs.Returns.{Part, partsOf, returnNow}
+use Rattle.rules.specs.Returns.{partsOf, returnNow}
 
 -- What a month changes. A right's shortage is kept at its row: short says at which rows a right served this month is short.
 pub record State : Type 0 where

@@ -1,17 +1,16 @@
 -- The terms of the water sum, and what has to hold of a tally (01, "The tally of a list of months").
 use mathlib.Core.Path.{_≡_}
-use mathlib.Core.Bool.{Bool, true, false}
-use mathlib.Core.List.{List, [], _∷_}
+use mathlib.Core.List.{List}
 use Prim.Native.Nat.{ℕ, suc, _+_}
 use lib.Dec.{eqb}
 use lib.ListN.{length, getD}
 use lib.IntN.{ℤ, pos, _+ℤ_, _-ℤ_}
 use Rattle.general.specs.Sums.{sumOver, sumOverℤ, sum, sumTo, sumToℤ, only}
 use Rattle.general.specs.Tables.{All}
-use Rattle.rules.specs.Basin.{Reservoir, Kind, direct, project, instream, storage, Right, Basin, rows, reservoirAt}
+use Rattle.rules.specs.Basin.{Reservoir, Kind, direct, project, instream, storage, Basin, rows, reservoirAt}
 use Rattle.rules.specs.Path.{lastRow}
 use Rattle.rules.specs.River.{levelAt, flowAt, Sound}
-use Rattle.rules.specs.Turn.{State, Grant, Turn}
+use Rattle.rules.specs.Turn.{State, Turn}
 use Rattle.rules.specs.Month.{consumedBy, MonthRun}
 use Rattle.rules.specs.Tally.{Tally, pending}
 

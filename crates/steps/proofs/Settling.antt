@@ -3,12 +3,12 @@ use mathlib.Core.Path.{_≡_, refl, sym, ap, _∙_, subst}
 use mathlib.Core.Bool.{Bool, true, false}
 use mathlib.Core.List.{List, [], _∷_}
 use mathlib.Core.Option.{Option, none, some}
-use Prim.Native.Nat.{ℕ, suc, _+_, _-_, _*_, _≤_, _<_}
+use Prim.Native.Nat.{ℕ, _+_, _-_, _*_, _≤_, _<_}
 use native.Mathlib.Decide.{decLt}
 use native.Mathlib.Omega.{arith}
 use lib.Dec.{leb, ltb, eqb}
 use lib.ListN.{length, getD, List·getD-eq-default}
-use Rattle.general.specs.Sums.{only, sumOver}
+use Rattle.general.specs.Sums.{sumOver}
 use Rattle.general.specs.Tests.{_and_, firstAt}
 use Rattle.general.proofs.Loops.{search-here, search-on, search-over}
 use Rattle.general.proofs.Tests.{ltb-yes, ltb-no, not-lt-of, eq-of, le-of, both-of, only-le}
@@ -26,7 +26,7 @@ use Rattle.basin.proofs.Accepted.{accepted-facts}
 use Rattle.records.proofs.Rows.{rows-are}
 use Rattle.boards.specs.Board.{possible}
 use Rattle.boards.specs.Report.{nameIn}
-use Rattle.boards.specs.Calls.{accepted, verdictRefusal, fileRefusal, orElse, unless, boardFits, listsFit, monthRefusal, runOf, Outcome, monthSettled, monthOf, NamesAllowed, MonthMeets}
+use Rattle.boards.specs.Calls.{accepted, verdictRefusal, fileRefusal, orElse, unless, listsFit, monthRefusal, runOf, Outcome, monthSettled, monthOf, NamesAllowed, MonthMeets}
 use Rattle.boards.specs.Bodies.{bodies}
 use Rattle.calls.specs.Answers.{settled}
 use Rattle.steps.specs.Steps.{mostRunoff, lentRefusal, CanGoOn, WentOn}

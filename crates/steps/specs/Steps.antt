@@ -1,5 +1,5 @@
 -- The steps of a month on the arrays: what each asks for, and what it leaves (01, steps 1 to 5).
-use mathlib.Core.Bool.{Bool, true}
+use mathlib.Core.Bool.{true}
 use mathlib.Core.List.{List}
 use mathlib.Core.Option.{Option}
 use mathlib.Core.Path.{_≡_}
@@ -8,7 +8,7 @@ use lib.ListN.{length, getD, set}
 use Rattle.general.specs.Tests.{has}
 use Rattle.rules.specs.Accepted.{Accepted}
 use Rattle.rules.specs.Basin.{Basin, rows}
-use Rattle.rules.specs.Month.{MonthRun, nextMonth, shortCount}
+use Rattle.rules.specs.Month.{nextMonth, shortCount}
 use Rattle.rules.specs.Tally.{Answer, reportLength, overLimit, overAnswer}
 use Rattle.records.specs.Records.{reservoirCount, basinOf}
 use Rattle.monthends.specs.Losses.{Lost}

@@ -1,25 +1,23 @@
 -- The turn of a right, at what the code has in hand. Assumes nothing.
 use mathlib.Core.Bool.{Bool, true, false, cond}
-use mathlib.Core.List.{List, [], _∷_}
+use mathlib.Core.List.{List, []}
 use mathlib.Core.Path.{_≡_, refl, sym, ap, _∙_, subst}
-use Prim.Native.Nat.{ℕ, zero, suc, _+_, _-_, _*_, _≤_, _<_}
+use Prim.Native.Nat.{ℕ, suc, _+_, _-_, _*_, _≤_, _<_}
 use native.Mathlib.Omega.{arith}
-use lib.Dec.{ltb, eqb}
+use lib.Dec.{ltb}
 use lib.ListN.{length, getD, set, length-set}
 use Rattle.general.specs.Sums.{sumOver}
 use Rattle.general.proofs.Tests.{absurd-bool, by-eqb}
 use Rattle.rules.specs.Basin.{Basin, Reservoir, Right, Kind, direct, project, instream, storage, noReservoir, noRight, rows, patternOf}
-use Rattle.rules.specs.Returns.{Part, partsOf, returnedAt}
-use Rattle.rules.specs.Turn.{State, demand, riverPart, riverStage, storagePart, storageStage, returnStage, granted, Grant, Turn, turn}
+use Rattle.rules.specs.Returns.{partsOf, returnedAt}
+use Rattle.rules.specs.Turn.{State, demand, riverPart, riverStage, storagePart, storageStage, granted, Grant, turn}
 use Rattle.records.specs.declared.rights.RightRecord.{RightRecord}
 use Rattle.records.specs.Records.{rightCount, rightRecord, kindOf, rightOf}
 use Rattle.river.specs.Arrays.{levelsOf}
 use Rattle.grants.specs.declared.grants.Grant as program
 use Rattle.grants.specs.declared.grants.Reason as why
-use Rattle.grants.specs.declared.grants.Reason.the-variants.{Met}
 use Rattle.grants.specs.declared.grants.RiverPart.{RiverPart}
-use Rattle.returns.specs.Dues.{mostAmount}
-use Rattle.grants.specs.Grants.{CanSee, seenBy, partOf, RiverGave}
+use Rattle.grants.specs.Grants.{CanSee, RiverGave}
 use Rattle.returns.specs.Returning.{dueIn, partsIn, RiverOk, BoardOk, Gave}
 use Rattle.turns.specs.Finish.{restOf, CanFinish, Finished, shortReason}
 use Rattle.turns.specs.State.{stateOf, Setting, Within, homeOf, Tells, Kept, Turned}
@@ -29,8 +27,8 @@ use Rattle.grants.proofs.RightKinds.{not-project}
 use Rattle.turns.proofs.Facts.{reservoirs-count, rights-count, place-most, project-behind, storage-behind, kind-is, points-ok}
 use Rattle.turns.proofs.Demands.{ask-is, part-is}
 use Rattle.turns.proofs.StageStates.{river-stage, drawn-is, storage-stage-is, parts-is, pattern-either, return-stage}
-use Rattle.turns.proofs.Serving.{turn-after, turn-river, turn-storage, made, tells}
-use Rattle.turns.proofs.Readying.{can-see, part-le, can-take, can-fill, unmarked, size₁, can-draw, both-small, size₂, month₂, dues₂, filled₂, grown₂, within₂, can-finish}
+use Rattle.turns.proofs.Serving.{turn-after, turn-river, turn-storage, tells}
+use Rattle.turns.proofs.Readying.{can-see, part-le, can-take, can-fill, unmarked, size₁, can-draw, size₂, month₂, dues₂, filled₂, grown₂, can-finish}
 
 returned-nothing : (p : List ℕ) (k s : ℕ) → returnedAt p k s [] ≡ 0
 unfolding returnedAt sumOver

@@ -1,39 +1,37 @@
 -- The demand and the river part in the rules' words. Assumes nothing.
-use mathlib.Core.Bool.{Bool, true, false, not, cond, _||_}
-use mathlib.Core.List.{List, [], _∷_, map}
-use mathlib.Core.Logic.{_≢_, _⊎_, inl, inr}
-use mathlib.Core.Path.{_≡_, refl, sym, ap, _∙_, subst}
-use Prim.Native.Nat.{ℕ, zero, suc, _+_, _-_, _*_, _≤_, _<_, min}
+use mathlib.Core.Bool.{Bool, true, false, not, cond}
+use mathlib.Core.List.{List, [], _∷_}
+use mathlib.Core.Logic.{_⊎_, inl, inr}
+use mathlib.Core.Path.{_≡_, refl, sym, ap, _∙_}
+use Prim.Native.Nat.{ℕ, _+_, _-_, _≤_, _<_, min}
 use native.Mathlib.Nat.{le-trans}
 use native.Mathlib.Omega.{arith}
-use lib.Dec.{ltb, eqb}
+use lib.Dec.{eqb}
 use lib.ListN.{length, getD}
 use lib.IntN.{ℤ, pos}
-use lib.Signed.{leZ, _≤ℤ_, ≤ℤ-refl, leZ-yes}
+use lib.Signed.{leZ, _≤ℤ_, leZ-yes}
 use Rattle.general.specs.Sums.{only}
-use Rattle.general.specs.Tables.{tab}
 use Rattle.general.specs.Tests.{has}
 use Rattle.general.proofs.Search.{has-none, has-head, has-tail, has-other}
-use Rattle.general.proofs.Signed.{up, dn, le-read, le-make, eq-make, signed, le-not}
+use Rattle.general.proofs.Signed.{le-make, eq-make, signed}
 use Rattle.general.proofs.Tables.{tab-at}
 use Rattle.general.proofs.Tests.{absurd-bool, true-of, only-le, by-eqb, eqb-other, T-of}
-use Rattle.rules.specs.Basin.{Station, Kind, direct, project, instream, storage, Right, Basin, rows, reservoirAt, reservoirOf}
+use Rattle.rules.specs.Basin.{Kind, direct, project, instream, storage, Right, Basin, rows, reservoirAt, reservoirOf}
 use Rattle.rules.specs.Path.{path}
-use Rattle.rules.specs.River.{Level, dry, levelAt, availableAt, lower, lowest, lesser}
-use Rattle.rules.specs.Turn.{State, pathOf, storageOf, markOf, bit, scheduled, demand, anyOn, called, divertible, riverPart, keepIf, lowestOn, numberAt}
-use Rattle.rules.specs.Accepted.{GoodRight}
+use Rattle.rules.specs.River.{Level, availableAt, lower, lowest, lesser}
+use Rattle.rules.specs.Turn.{State, pathOf, storageOf, markOf, bit, scheduled, demand, anyOn, called, divertible, riverPart}
 use Rattle.records.specs.Records.{reservoirCount, rightCount, rightRecord, amountAt, kindOf, rightOf}
 use Rattle.river.specs.declared.Seen.{Seen}
 use Rattle.river.specs.declared.Seen.the-variants as seen
 use Rattle.records.specs.Table.{pathBy}
-use Rattle.river.specs.Arrays.{levelsOf, rowLevel, seenOn}
+use Rattle.river.specs.Arrays.{seenOn}
 use Rattle.river.proofs.Levels.{levels-at}
 use Rattle.records.proofs.Table.{by-self}
 use Rattle.returns.specs.Dues.{mostAmount}
 use Rattle.grants.specs.Grants.{seenBy, partOf}
-use Rattle.turns.specs.State.{storagesOf, marksOf, takenOf, shortOf, stateOf, Setting, Within}
-use Rattle.grants.specs.Stages.{amountIn, askOf, askIn, capacityIn, RoomLeft, isStorage}
-use Rattle.turns.proofs.Facts.{downhill, path-is, path-in, reservoirs-count, rights-count, right-is, capacity-is, right-good, kind-is, row-is, reservoir-of, limit-is, row-in, row-on, storage-behind}
+use Rattle.turns.specs.State.{storagesOf, marksOf, shortOf, stateOf, Setting}
+use Rattle.grants.specs.Stages.{amountIn, askIn, capacityIn, isStorage}
+use Rattle.turns.proofs.Facts.{downhill, path-is, path-in, reservoirs-count, rights-count, capacity-is, right-good, kind-is, row-is, reservoir-of, limit-is, row-in, row-on, storage-behind}
 use Rattle.grants.proofs.Looks.{seen-called, LowSeen, seen-low}
 use Rattle.grants.proofs.RightKinds.{by-kind}
 use Rattle.turns.proofs.Places.{storage-at, taken-at, mark-at}

@@ -1,18 +1,15 @@
 -- The end of a turn, at what the code has in hand. Assumes nothing.
-use mathlib.Core.Bool.{Bool, true, false, cond}
+use mathlib.Core.Bool.{Bool, true}
 use mathlib.Core.List.{List, []}
-use mathlib.Core.Path.{_≡_, refl, sym, ap, _∙_, subst}
+use mathlib.Core.Path.{_≡_, sym, ap, subst}
 use Prim.Native.Nat.{ℕ, _+_, _-_, _*_, _/_, _≤_, _<_}
 use native.Mathlib.Nat.{mul-le-mul, mul-le-mul-left}
 use native.Mathlib.Omega.{arith}
-use lib.Dec.{ltb}
-use lib.ListN.{length, getD, set}
+use lib.ListN.{getD, set}
 use Rattle.general.proofs.Tests.{ltb-yes, ltb-no}
 use Rattle.records.specs.declared.rights.RightRecord.{RightRecord}
-use Rattle.grants.specs.declared.grants.Grant.{Grant}
 use Rattle.grants.specs.declared.grants.Reason.{Reason}
 use Rattle.grants.specs.declared.grants.Reason.the-variants.{Met}
-use Rattle.returns.specs.Dues.{mostAmount}
 use Rattle.returns.specs.Returning.{PointsOk, CanGive, Gave}
 use Rattle.turns.specs.Finish.{restOf, CanFinish, Finished}
 

@@ -1,31 +1,27 @@
 -- What a setting says of the parts of a file. Assumes nothing.
-use mathlib.Core.Bool.{Bool, true, false}
-use mathlib.Core.List.{List, [], _∷_, map}
-use mathlib.Core.Logic.{_≢_, _⊎_, inl, inr}
+use mathlib.Core.Bool.{true}
+use mathlib.Core.List.{List, [], map}
+use mathlib.Core.Logic.{_⊎_, inl, inr}
 use mathlib.Core.Path.{_≡_, refl, sym, ap, _∙_, subst}
-use Prim.Native.Nat.{ℕ, zero, suc, _+_, _-_, _*_, _/_, _≤_, _<_}
+use Prim.Native.Nat.{ℕ, _-_, _≤_, _<_}
 use native.Mathlib.Omega.{arith}
-use lib.Dec.{eqb}
 use lib.ListN.{length, getD, length-map}
-use Rattle.general.specs.Sums.{sumOver, sum, sumTo}
-use Rattle.general.specs.Tables.{tab, All}
+use Rattle.general.specs.Sums.{sum, sumTo}
+use Rattle.general.specs.Tables.{tab}
 use Rattle.general.specs.Tests.{has}
 use Rattle.general.proofs.Lists.{all-at-place}
-use Rattle.general.proofs.Sums.{sumTo-same, sumTo-list, sum-map}
-use Rattle.general.proofs.Tables.{tab-length, tab-at, sum-tab}
-use Rattle.general.proofs.Tests.{eq-of, by-eqb}
-use Rattle.rules.specs.Basin.{Station, Reservoir, Point, Kind, direct, project, instream, storage, Right, Basin, noReservoir, noRight, rows, reservoirAt, rightAt, reservoirOf, patternOf}
+use Rattle.general.proofs.Sums.{sumTo-same, sumTo-list}
+use Rattle.general.proofs.Tables.{tab-length, tab-at}
+use Rattle.rules.specs.Basin.{Reservoir, Point, Kind, direct, project, instream, storage, Right, Basin, noReservoir, noRight, rows, reservoirAt, rightAt, reservoirOf, patternOf}
 use Rattle.rules.specs.Path.{path}
 use Rattle.rules.proofs.Path as paths
 use Rattle.rules.specs.Returns.{percents}
-use Rattle.rules.specs.Accepted.{GoodReservoir, GoodRight, ReservoirOk, ReturnsOk, Unreturned, Returned, Accepted}
-use Rattle.records.specs.declared.rights.RightRecord.{RightRecord}
+use Rattle.rules.specs.Accepted.{GoodReservoir, GoodRight, ReservoirOk, ReturnsOk, Unreturned, Returned}
 use Rattle.records.specs.Records as records
-use Rattle.records.specs.Records.{rowsOf, stationsOf, reservoirCount, reservoirRecord, reservoirsOf, rightCount, rightRecord, amountAt, returnRow, returnPercent, kindOf, rightOf, rightsOf}
+use Rattle.records.specs.Records.{rowsOf, reservoirCount, reservoirsOf, rightCount, rightRecord, returnRow, returnPercent, kindOf, rightOf, rightsOf}
 use Rattle.records.proofs.Rows.{rows-are}
-use Rattle.records.specs.Table.{tableOf, pathBy, Downhill}
+use Rattle.records.specs.Table.{pathBy, Downhill}
 use Rattle.records.proofs.Table.{table-downhill, table-path}
-use Rattle.returns.specs.Dues.{mostAmount, Whole}
 use Rattle.returns.specs.Returning.{pointsUpTo, PointsOk}
 use Rattle.turns.specs.State.{Setting}
 use Rattle.grants.specs.Stages.{capacityIn, homeRow}

@@ -1,9 +1,8 @@
 -- What a turn leaves alone: the places of no reservoir and no right; marks of reservoirs that exist. Assumes nothing.
-use mathlib.Core.Bool.{Bool, true, false, cond, _&&_}
+use mathlib.Core.Bool.{Bool, true, false, _&&_}
 use mathlib.Core.List.{List}
-use mathlib.Core.Logic.{_≢_}
-use mathlib.Core.Path.{_≡_, refl, sym, ap, _∙_, subst}
-use Prim.Native.Nat.{ℕ, zero, suc, _+_, _-_, _*_, _/_, _%_, _^_, _≤_, _<_}
+use mathlib.Core.Path.{_≡_, refl, sym, _∙_}
+use Prim.Native.Nat.{ℕ, zero, suc, _+_, _-_, _/_, _^_, _≤_, _<_}
 use native.Mathlib.Nat.{pow-suc}
 use native.Mathlib.Omega.{arith}
 use lib.Dec.{ltb, eqb}
@@ -12,7 +11,7 @@ use lib.Seq.{getD-set-same, getD-set-other}
 use Rattle.general.proofs.Tests.{lt-of}
 use Rattle.rules.specs.Basin.{Basin, Kind, direct, project, instream, storage}
 use Rattle.rules.specs.Turn.{bit}
-use Rattle.grants.specs.Stages.{isStorage, markedBoard, poured, boardStored, boardDrawn}
+use Rattle.grants.specs.Stages.{isStorage, markedBoard, boardStored, boardDrawn}
 use Rattle.turns.specs.State.{Kept}
 use Rattle.grants.proofs.RightKinds.{nine}
 use Rattle.turns.proofs.Places.{bit-suc, not-odd, poured-other}

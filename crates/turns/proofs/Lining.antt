@@ -1,6 +1,6 @@
 -- The rights one after another: from k rights served to k + 1, and from all served to the month's turns.
 use mathlib.Core.Bool.{Bool, true, false, not, cond}
-use mathlib.Core.List.{List, [], _∷_, map}
+use mathlib.Core.List.{List, [], _∷_}
 use mathlib.Core.Logic.{_≢_}
 use mathlib.Core.Path.{_≡_, refl, sym, ap, _∙_, subst}
 use Prim.Native.Nat.{ℕ, zero, suc, _+_, _*_, _≤_, _<_}
@@ -16,15 +16,14 @@ use Rattle.general.proofs.Tests.{by-eqb}
 use Rattle.rules.specs.Basin.{Right, Basin, noRight, reservoirAt, rightAt, patternOf}
 use Rattle.rules.specs.Returns.{returnedAt, partsOf}
 use Rattle.rules.specs.Turn.{State, Grant, granted, Turn, turn}
-use Rattle.rules.specs.Month.{turns, afterTurns, grantsOf, returnedBy, returnsAt, reasonNumber, isShort, shortCount}
-use Rattle.rules.proofs.Bounds.{Capped, StateCapped, turn-capped}
+use Rattle.rules.specs.Month.{turns, afterTurns, returnedBy, returnsAt, reasonNumber, isShort, shortCount}
+use Rattle.rules.proofs.Bounds.{StateCapped, turn-capped}
 use Rattle.rules.proofs.Months.{turns-length}
 use Rattle.records.specs.Records.{rightCount, rightOf}
 use Rattle.grants.specs.declared.grants.Grant as program
-use Rattle.returns.specs.Dues.{mostAmount}
-use Rattle.returns.specs.Returning.{dueIn, RiverOk, BoardOk}
-use Rattle.turns.specs.State.{storagesOf, marksOf, takenOf, stateOf, Setting, Within, whyOf, namedBy, homeOf, Turned}
-use Rattle.turns.specs.Lines.{lineOf, shortOne, CanLine, LineServed, noGrant, grantAt, LinesTo, turnsFrom, ServedTo, Served}
+use Rattle.returns.specs.Returning.{RiverOk, BoardOk}
+use Rattle.turns.specs.State.{storagesOf, marksOf, takenOf, stateOf, Setting, Within, whyOf, namedBy, homeOf}
+use Rattle.turns.specs.Lines.{lineOf, CanLine, LineServed, noGrant, grantAt, LinesTo, turnsFrom, ServedTo, Served}
 use Rattle.turns.proofs.Places.{storage-at, taken-at}
 use Rattle.turns.proofs.Keeping.{kept-none, kept-on}
 use Rattle.turns.proofs.Facts.{rights-count, right-is}

@@ -1,16 +1,16 @@
 -- The station that a grant names: a right whose storage gave out has a reservoir, and that stands at a station.
 use mathlib.Core.Bool.{Bool, true, false, cond}
 use mathlib.Core.List.{List}
-use mathlib.Core.Path.{_≡_, refl, sym, ap, _∙_, subst}
-use Prim.Native.Nat.{ℕ, _≤_, _<_}
+use mathlib.Core.Path.{_≡_, refl, sym, ap, _∙_}
+use Prim.Native.Nat.{ℕ, _<_}
 use native.Mathlib.Omega.{arith}
 use lib.Dec.{ltb}
 use lib.ListN.{length}
-use Rattle.rules.specs.Basin.{Station, Reservoir, Kind, direct, project, instream, storage, Right, Basin, rows, reservoirAt, reservoirOf}
-use Rattle.rules.specs.Turn.{State, called, Reason, met, calledOut, riverLow, storageOut, shortage, reasonOf, numberAt, granted, turn}
+use Rattle.rules.specs.Basin.{Station, Kind, direct, project, instream, storage, Right, Basin, reservoirAt}
+use Rattle.rules.specs.Turn.{State, called, met, shortage, reasonOf, numberAt, granted, turn}
 use Rattle.rules.specs.Month.{reasonNumber}
 use Rattle.rules.specs.Accepted.{ReservoirOk}
-use Rattle.records.specs.Records.{stationsOf, rowsOf, reservoirCount, rightCount, rightRecord, rightOf}
+use Rattle.records.specs.Records.{reservoirCount, rightCount, rightRecord, rightOf}
 use Rattle.grants.specs.declared.grants.Reason.{Reason as ReasonMade}
 use Rattle.grants.specs.declared.grants.Reason.the-variants.{Met, Called, RiverLow, StorageOut}
 use Rattle.grants.specs.declared.grants.Grant.{Grant as GrantMade}

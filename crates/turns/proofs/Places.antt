@@ -1,9 +1,9 @@
 -- What a store to the board does to the storages, marks and numbers taken that it holds. Assumes nothing.
-use mathlib.Core.Bool.{Bool, true, false, cond, not, _&&_}
+use mathlib.Core.Bool.{Bool, true, false, cond, _&&_}
 use mathlib.Core.List.{List, [], _∷_}
 use mathlib.Core.Logic.{_≢_}
 use mathlib.Core.Path.{_≡_, refl, sym, ap, _∙_}
-use Prim.Native.Nat.{ℕ, zero, suc, _+_, _-_, _*_, _/_, _%_, _^_, _≤_, _<_}
+use Prim.Native.Nat.{ℕ, zero, suc, _+_, _-_, _/_, _%_, _^_, _≤_, _<_}
 use native.Mathlib.Nat.{pow-suc, mul-comm, div-div-eq-div-mul}
 use native.Mathlib.Omega.{arith}
 use lib.Dec.{ltb, eqb}
@@ -11,7 +11,7 @@ use lib.ListN.{length, getD, set, length-set}
 use lib.Seq.{getD-set-same, getD-set-other, ext-getD}
 use Rattle.general.specs.Tables.{tab}
 use Rattle.general.proofs.Tables.{tab-length, tab-at, tab-same}
-use Rattle.general.proofs.Tests.{absurd-bool, by-eqb, eqb-same}
+use Rattle.general.proofs.Tests.{absurd-bool, by-eqb}
 use Rattle.rules.specs.Turn.{bit}
 use Rattle.turns.specs.State.{storagesOf, marksOf, takenOf, shortOf}
 use Rattle.grants.specs.Stages.{markedBoard, poured}

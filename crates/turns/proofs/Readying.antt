@@ -1,40 +1,37 @@
 -- What each stage of a turn asks for, from what the turn asks for. Assumes nothing.
-use mathlib.Core.Bool.{Bool, true, false, not, cond}
+use mathlib.Core.Bool.{Bool, true, false, cond}
 use mathlib.Core.List.{List, [], _∷_}
-use mathlib.Core.Logic.{_≢_, _⊎_, inl, inr}
-use mathlib.Core.Path.{_≡_, refl, sym, ap, _∙_, subst}
-use Prim.Native.Nat.{ℕ, zero, suc, _+_, _-_, _*_, _≤_, _<_, min}
+use mathlib.Core.Path.{_≡_, refl, sym, ap, _∙_}
+use Prim.Native.Nat.{ℕ, zero, suc, _+_, _-_, _≤_, _<_}
 use native.Mathlib.Nat.{le-trans}
 use native.Mathlib.Omega.{arith}
-use lib.Dec.{ltb, eqb}
+use lib.Dec.{eqb}
 use lib.ListN.{length, getD, set, length-set}
 use lib.Seq.{getD-set-other}
-use lib.IntN.{ℤ, pos, _-ℤ_}
-use Rattle.general.specs.Sums.{only}
+use lib.IntN.{pos, _-ℤ_}
 use Rattle.general.specs.Tests.{has}
 use Rattle.general.proofs.Signed.{up, dn, lower-law}
-use Rattle.general.proofs.Tests.{absurd-bool, by-eqb, eq-of, eqb-other, only-le}
-use Rattle.rules.specs.Basin.{Reservoir, Kind, direct, project, instream, storage, Right, Basin, reservoirAt, rightAt}
-use Rattle.rules.specs.River.{Level, levelAt, along, diverted, reserved, released}
+use Rattle.general.proofs.Tests.{absurd-bool, by-eqb, eq-of, only-le}
+use Rattle.rules.specs.Basin.{Kind, direct, project, instream, storage, Right, Basin}
+use Rattle.rules.specs.River.{Level, levelAt, along, reserved}
 use Rattle.rules.specs.Turn.{bit}
-use Rattle.records.specs.Records.{rowsOf, reservoirCount, rightCount, rightRecord, kindOf, rightOf}
+use Rattle.records.specs.Records.{reservoirCount, rightCount, rightRecord, kindOf}
 use Rattle.river.specs.declared.Seen.{Seen}
 use Rattle.river.specs.declared.Seen.the-variants as seen
 use Rattle.records.specs.Table.{pathBy}
-use Rattle.river.specs.Arrays.{levelsOf, seenOn, Enough, Room, CanDivert, CanRelease, rowLevel}
+use Rattle.river.specs.Arrays.{levelsOf, seenOn, rowLevel}
 use Rattle.river.proofs.Levels.{change-read, diverted-read, released-read, levels-at}
 use Rattle.records.proofs.Table.{by-self}
 use Rattle.river.proofs.Table.{by-in}
-use Rattle.returns.specs.Dues.{mostAmount, roomy, Roomy}
+use Rattle.returns.specs.Dues.{mostAmount}
 use Rattle.grants.specs.Grants.{CanSee, seenBy, partOf}
 use Rattle.returns.specs.Returning.{RiverOk, BoardOk}
 use Rattle.turns.specs.Finish.{CanFinish}
 use Rattle.turns.specs.State.{Setting, Within}
-use Rattle.grants.specs.Stages.{isStorage, askIn, RoomLeft, CanAsk, levelsTaken, CanTake, capacityIn, poured, boardStored, CanFill, drawnIn, boardDrawn, levelsReleased, homeRow, CanDraw}
+use Rattle.grants.specs.Stages.{isStorage, askIn, CanAsk, levelsTaken, CanTake, capacityIn, boardStored, CanFill, drawnIn, boardDrawn, levelsReleased, homeRow, CanDraw}
 use Rattle.turns.proofs.Facts.{rows-st, few, path-in, reservoirs-count, rights-count, right-is, capacity-is, home-in, right-good, place-most, kind-is, limit-is, row-in, row-on, efficiency-is, points-ok, project-behind, storage-behind}
-use Rattle.grants.proofs.Looks.{seen-low}
 use Rattle.turns.proofs.Places.{poured-size, poured-grown, poured-other}
-use Rattle.grants.proofs.RightKinds.{by-kind, kind-project, not-project}
+use Rattle.grants.proofs.RightKinds.{not-project}
 use Rattle.turns.proofs.Demands.{ask-most, ask-marked, lowest-is}
 
 -- ---- what a river part leaves of the arrays, row by row

@@ -1,39 +1,35 @@
 -- A whole turn, from its stages. Assumes nothing.
-use mathlib.Core.Bool.{Bool, true, false, not, cond}
+use mathlib.Core.Bool.{Bool, true, false, cond}
 use mathlib.Core.List.{List, [], _∷_, map}
-use mathlib.Core.Logic.{_≢_}
 use mathlib.Core.Path.{_≡_, refl, sym, ap, _∙_, subst}
-use Prim.Native.Nat.{ℕ, zero, suc, _+_, _-_, _*_, _/_, _≤_, _<_, min}
+use Prim.Native.Nat.{ℕ, _+_, _-_, _≤_, _<_}
 use native.Mathlib.Omega.{arith}
-use lib.Dec.{ltb, eqb}
-use lib.ListN.{getD, set}
-use lib.IntN.{ℤ, pos}
+use lib.Dec.{ltb}
+use lib.ListN.{getD}
+use lib.IntN.{pos}
 use lib.Signed.{leZ, ≤ℤ-refl}
-use Rattle.general.specs.Sums.{only}
 use Rattle.general.specs.Tests.{has}
 use Rattle.general.proofs.Search.{has-none, has-head, has-tail, has-other}
 use Rattle.general.proofs.Tests.{absurd-bool, true-of, by-eqb, eqb-other, lt-of}
-use Rattle.rules.specs.Basin.{Station, Kind, direct, project, instream, storage, Right, Basin, rows, reservoirAt, reservoirOf, patternOf}
-use Rattle.rules.specs.Path.{path}
-use Rattle.rules.specs.River.{Level, availableAt, lowest}
-use Rattle.rules.specs.Returns.{partsOf, returnedAt, Part}
-use Rattle.rules.specs.Turn.{State, pathOf, demand, called, riverPart, riverStage, storagePart, storageStage, returnStage, Reason, met, calledOut, riverLow, storageOut, shortage, reasonOf, keepIf, lowestOn, lowRows, numberAt, controlling, Grant, granted, Turn, turn}
+use Rattle.rules.specs.Basin.{Station, Kind, direct, project, instream, storage, Right, Basin, rows}
+use Rattle.rules.specs.River.{availableAt, lowest}
+use Rattle.rules.specs.Turn.{State, pathOf, demand, called, riverPart, riverStage, storagePart, storageStage, returnStage, Reason, met, calledOut, riverLow, shortage, reasonOf, keepIf, lowestOn, lowRows, numberAt, controlling, Grant, turn}
 use Rattle.rules.specs.Month.{reasonNumber}
-use Rattle.records.specs.Records.{stationsOf, reservoirCount, rightCount, rightRecord, kindOf, rightOf}
+use Rattle.records.specs.Records.{stationsOf, rightCount, rightRecord, rightOf}
 use Rattle.river.specs.declared.Seen.{Seen}
 use Rattle.river.specs.declared.Seen.the-variants as seen
 use Rattle.records.specs.Table.{pathBy}
 use Rattle.river.specs.Arrays.{seenOn}
 use Rattle.grants.specs.declared.grants.Grant as program
 use Rattle.grants.specs.declared.grants.Reason as why
-use Rattle.grants.specs.declared.grants.Reason.the-variants.{Met, Called, RiverLow, StorageOut}
+use Rattle.grants.specs.declared.grants.Reason.the-variants.{Met, Called, StorageOut}
 use Rattle.grants.specs.declared.grants.RiverPart.{RiverPart}
 use Rattle.grants.specs.Grants as grants
-use Rattle.grants.specs.Grants.{seenBy, partOf, RiverGave}
+use Rattle.grants.specs.Grants.{seenBy, RiverGave}
 use Rattle.turns.specs.Finish.{shortReason}
 use Rattle.turns.specs.State.{stateOf, shortOf, Setting, whyOf, namedBy, homeOf, Tells}
 use Rattle.grants.proofs.RightKinds.{by-kind}
-use Rattle.turns.proofs.Facts.{path-in, right-good, kind-is, row-is, row-in}
+use Rattle.turns.proofs.Facts.{path-in, kind-is, row-is, row-in}
 use Rattle.grants.proofs.Looks.{seen-called}
 use Rattle.turns.proofs.Demands.{path-of, called-is, available-is, lowest-is, short-at}
 

@@ -1,39 +1,34 @@
 -- Each stage of a turn, from the arrays to the rules' state. Assumes nothing.
-use mathlib.Core.Bool.{Bool, true, false, not, cond, _&&_}
+use mathlib.Core.Bool.{Bool, true, false, cond, _&&_}
 use mathlib.Core.List.{List, [], _∷_}
-use mathlib.Core.Logic.{_≢_, _⊎_, inl, inr}
 use mathlib.Core.Path.{_≡_, refl, sym, ap, _∙_, subst}
 use Prim.Native.Nat.{ℕ, zero, suc, _+_, _-_, _*_, _/_, _≤_, _<_, min}
 use native.Mathlib.Omega.{arith}
 use lib.Dec.{ltb, eqb}
-use lib.ListN.{length, getD, set, length-set}
-use lib.Seq.{getD-set-same, getD-set-other, ext-getD}
-use Rattle.general.specs.Sums.{sumOver, sumTo, only}
+use lib.ListN.{length, getD, set}
+use lib.Seq.{ext-getD}
 use Rattle.general.specs.Tables.{tab, All}
 use Rattle.general.proofs.Lists.{all-append}
 use Rattle.general.proofs.Sums.{sumTo-same}
-use Rattle.general.proofs.Tables.{tab-length, tab-at, tab-same}
+use Rattle.general.proofs.Tables.{tab-length, tab-at}
 use Rattle.general.proofs.Tests.{absurd-bool, by-eqb, lt-of}
-use Rattle.rules.specs.Basin.{Station, Point, Kind, direct, project, instream, storage, Right, Basin, rows, reservoirAt, reservoirOf, patternOf}
-use Rattle.rules.specs.Path.{path, untilRow}
-use Rattle.rules.specs.River.{Level, along, diverted, reserved, released, returned}
-use Rattle.rules.specs.Returns.{consumption, returning, shares, Part, partsAt, percents, partsOf, lagged, returnNow, returnedAt}
-use Rattle.rules.specs.Turn.{State, pathOf, storageOf, bit, withLevels, afterDiversion, riverStage, storagePart, storageStage, returnStage}
-use Rattle.rules.specs.Accepted.{GoodRight, ReturnsOk, Unreturned, Returned}
+use Rattle.rules.specs.Basin.{Point, Kind, direct, project, instream, storage, Right, Basin, rows, reservoirAt, reservoirOf, patternOf}
+use Rattle.rules.specs.River.{Level}
+use Rattle.rules.specs.Returns.{consumption, returning, shares, Part, partsAt, percents, partsOf, returnNow}
+use Rattle.rules.specs.Turn.{State, bit, withLevels, afterDiversion, riverStage, storagePart, storageStage, returnStage}
+use Rattle.rules.specs.Accepted.{ReturnsOk}
 use Rattle.rules.proofs.Splits.{shares-length}
-use Rattle.records.specs.Records.{reservoirCount, reservoirRecord, rightCount, rightRecord, returnRow, returnPercent, kindOf, rightOf}
-use Rattle.records.specs.Table.{pathBy}
+use Rattle.records.specs.Records.{reservoirCount, rightCount, rightRecord, returnRow, returnPercent, kindOf, rightOf}
 use Rattle.river.specs.Arrays.{levelsOf}
-use Rattle.returns.specs.Dues.{mostAmount}
-use Rattle.returns.specs.Returning.{pointsUpTo, partIn, partsIn, returnBy, PointsOk, Gave}
+use Rattle.returns.specs.Returning.{pointsUpTo, partIn, partsIn, returnBy}
 use Rattle.turns.specs.Finish.{restOf}
 use Rattle.turns.specs.State.{storagesOf, marksOf, takenOf, shortOf, stateOf, Setting}
-use Rattle.grants.specs.Stages.{isStorage, capacityIn, levelsTaken, markedBoard, poured, boardStored, drawnIn, boardDrawn, levelsReleased, homeRow}
+use Rattle.grants.specs.Stages.{isStorage, capacityIn, levelsTaken, poured, boardStored, drawnIn, boardDrawn, levelsReleased, homeRow}
 use Rattle.returns.proofs.Shares.{upTo, share-at}
-use Rattle.turns.proofs.Facts.{path-is, reservoirs-count, rights-count, right-is, capacity-is, home-is, home-in, right-good, kind-is, row-is, reservoir-of, row-in, row-on, efficiency-is, points-are, pointAt, point-in, points-count, percents-count, pattern-same, percent-at, project-behind, storage-behind}
-use Rattle.turns.proofs.Places.{storage-at, taken-at, mark-at, storages-set, shorts-set, taken-off, marks-off, places-same, storages-poured, taken-poured, marks-poured}
+use Rattle.turns.proofs.Facts.{path-is, reservoirs-count, rights-count, capacity-is, home-is, home-in, right-good, kind-is, row-is, reservoir-of, row-in, row-on, efficiency-is, points-are, pointAt, point-in, points-count, percents-count, pattern-same, percent-at, project-behind, storage-behind}
+use Rattle.turns.proofs.Places.{storage-at, taken-at, storages-set, shorts-set, taken-off, marks-off, places-same, storages-poured, taken-poured, marks-poured}
 use Rattle.grants.proofs.RightKinds.{stored-not, stored-is, not-project}
-use Rattle.turns.proofs.Demands.{path-of, state-storage, state-capacity}
+use Rattle.turns.proofs.Demands.{path-of, state-storage}
 
 state-path : (l l′ : List Level) (x x′ : List ℕ) (m m′ : List Bool) (y y′ : List ℕ) (z z′ : List Bool) → l ≡ l′ → x ≡ x′ → m ≡ m′ → y ≡ y′ → z ≡ z′
     → _≡_ {A = State} (record { levels = l; storages = x; marks = m; taken = y; short = z }) (record { levels = l′; storages = x′; marks = m′; taken = y′; short = z′ })

@@ -1,5 +1,5 @@
 -- The end of a turn in the arrays' words: the returns, the mark of a short row, the grant.
-use mathlib.Core.Bool.{Bool, true, false, cond}
+use mathlib.Core.Bool.{Bool, true, cond}
 use mathlib.Core.List.{List, []}
 use mathlib.Core.Path.{_≡_}
 use Prim.Native.Nat.{ℕ, _+_, _-_, _*_, _/_, _≤_, _<_}

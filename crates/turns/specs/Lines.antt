@@ -1,11 +1,10 @@
 -- All rights of a month in list order: the lines of the report, and what the arrays hold after them.
-use mathlib.Core.Bool.{Bool, true, false, cond}
-use mathlib.Core.List.{List, [], _∷_}
+use mathlib.Core.Bool.{Bool, true, cond}
+use mathlib.Core.List.{List, []}
 use mathlib.Core.Path.{_≡_}
 use Prim.Native.Nat.{ℕ, suc, _+_, _*_, _≤_, _<_}
 use lib.Dec.{eqb}
 use lib.ListN.{length, getD, set, drop}
-use Rattle.general.specs.Sums.{only}
 use Rattle.general.specs.Tests.{has}
 use Rattle.rules.specs.Basin.{Basin, rows}
 use Rattle.rules.specs.Turn.{State, Grant, met, numberAt, Turn}
@@ -13,7 +12,6 @@ use Rattle.rules.specs.Month.{turns, afterTurns, grantsOf, returnsAt, reasonNum
 use Rattle.records.specs.Records.{stationsOf, rowsOf, reservoirCount, rightCount, rightOf}
 use Rattle.grants.specs.declared.grants.Grant as program
 use Rattle.grants.specs.declared.grants.Reason.{Reason}
-use Rattle.grants.specs.declared.grants.Reason.the-variants.{StorageOut}
 use Rattle.returns.specs.Dues.{mostAmount}
 use Rattle.returns.specs.Returning.{dueIn, RiverOk, BoardOk}
 use Rattle.grants.specs.Stages.{homeRow}

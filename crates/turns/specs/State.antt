@@ -1,25 +1,23 @@
 -- The arrays of a month as the rules' state, and what each stage of a right's turn leaves in them.
-use mathlib.Core.Bool.{Bool, true, false, cond, _&&_}
-use mathlib.Core.List.{List, [], _∷_}
+use mathlib.Core.Bool.{Bool, true, false}
+use mathlib.Core.List.{List, []}
 use mathlib.Core.Path.{_≡_}
-use Prim.Native.Nat.{ℕ, suc, _+_, _-_, _*_, _/_, _^_, _≤_, _<_}
-use lib.Dec.{ltb, eqb}
-use lib.ListN.{length, getD, set}
+use Prim.Native.Nat.{ℕ, suc, _+_, _-_, _*_, _^_, _≤_, _<_}
+use lib.ListN.{length, getD}
 use Rattle.general.specs.Tables.{tab}
 use Rattle.general.specs.Tests.{has}
 use Rattle.rules.specs.Basin.{Basin, Right, rows, reservoirAt, rightAt, patternOf}
-use Rattle.rules.specs.River.{Level}
 use Rattle.rules.specs.Returns.{partsOf, returnedAt}
 use Rattle.rules.specs.Turn.{State, bit, Grant, granted, Turn, turn}
 use Rattle.rules.specs.Month.{reasonNumber}
 use Rattle.rules.specs.Accepted.{Accepted}
-use Rattle.records.specs.Records.{stationsOf, reservoirsOf, reservoirCount, reservoirRecord, rightsOf, rightCount, rightRecord, rightOf, kindOf}
+use Rattle.records.specs.Records.{stationsOf, reservoirsOf, rightsOf, rightCount, rightOf}
 use Rattle.records.specs.Table.{tableOf}
 use Rattle.river.specs.Arrays.{levelsOf}
 use Rattle.grants.specs.declared.grants.Grant.{Grant as GrantMade}
 use Rattle.grants.specs.declared.grants.Reason.{Reason}
 use Rattle.grants.specs.declared.grants.Reason.the-variants.{Met, Called, RiverLow, StorageOut}
-use Rattle.returns.specs.Dues.{mostAmount, roomy, Roomy}
+use Rattle.returns.specs.Dues.{mostAmount}
 use Rattle.returns.specs.Returning.{dueIn, RiverOk, BoardOk}
 
 -- ---- the state that the arrays hold

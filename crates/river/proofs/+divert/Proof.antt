@@ -1,3 +1,4 @@
+-- `river::divert` meets its contract. Assumes nothing.
 use Prim.Native.Nat.{ℕ, _-_, _<_}
 use mathlib.Core.Path.{sym, _∙_}
 use native.Mathlib.Omega.{arith}
@@ -24,7 +25,6 @@ divert-at t = and 3 divert-kinds.ps (is 3 divert-kinds.ps μ-divert t) divert.Pr
 abbrev divert-below : ℕ → In 3 divert-kinds.ps
 divert-below t = and 3 divert-kinds.ps (falls 3 divert-kinds.ps _<_ μ-divert t) divert.Pre
 
--- src/lib.rt:26:17
 divert-mul-flow : (t : ℕ) → divert-lts.Need-mul-flow (
   next-row-reads.Asked,
   next-row-reads.Learnt,
@@ -33,7 +33,6 @@ divert-mul-flow : (t : ℕ) → divert-lts.Need-mul-flow (
 ) (divert-at t) divert.Post
 divert-mul-flow t c = search needs
 
--- src/lib.rt:26:17
 divert-element-copy-out-flow : (t : ℕ) → divert-lts.Need-element-copy-out-flow (
   next-row-reads.Asked,
   next-row-reads.Learnt,
@@ -42,7 +41,6 @@ divert-element-copy-out-flow : (t : ℕ) → divert-lts.Need-element-copy-out-fl
 ) (divert-at t) divert.Post
 divert-element-copy-out-flow t c = search needs
 
--- src/lib.rt:26:17
 divert-sub-flow : (t : ℕ) → divert-lts.Need-sub-flow (
   next-row-reads.Asked,
   next-row-reads.Learnt,
@@ -53,7 +51,6 @@ divert-sub-flow t c =
     let b = c .before in
     omega (arith, enough-self (now (b .args .below)) (b .args .row) (b .pre .1 .row-ok) (b .args .d) (now (b .args .flow)) (b .pre .1 .flows))
 
--- src/lib.rt:26:5
 divert-mul-flow-2 : (t : ℕ) → divert-lts.Need-mul-flow-2 (
   next-row-reads.Asked,
   next-row-reads.Learnt,
@@ -62,7 +59,6 @@ divert-mul-flow-2 : (t : ℕ) → divert-lts.Need-mul-flow-2 (
 ) (divert-at t) divert.Post
 divert-mul-flow-2 t c = search needs
 
--- src/lib.rt:26:5
 divert-element-write-flow : (t : ℕ) → divert-lts.Need-element-write-flow (
   next-row-reads.Asked,
   next-row-reads.Learnt,
@@ -71,7 +67,6 @@ divert-element-write-flow : (t : ℕ) → divert-lts.Need-element-write-flow (
 ) (divert-at t) divert.Post
 divert-element-write-flow t c = search needs
 
--- src/lib.rt:27:22
 divert-mul-available : (t : ℕ) → divert-lts.Need-mul-available (
   next-row-reads.Asked,
   next-row-reads.Learnt,
@@ -80,7 +75,6 @@ divert-mul-available : (t : ℕ) → divert-lts.Need-mul-available (
 ) (divert-at t) divert.Post
 divert-mul-available t c = search needs
 
--- src/lib.rt:27:22
 divert-element-copy-out-available : (t : ℕ) → divert-lts.Need-element-copy-out-available (
   next-row-reads.Asked,
   next-row-reads.Learnt,
@@ -89,7 +83,6 @@ divert-element-copy-out-available : (t : ℕ) → divert-lts.Need-element-copy-o
 ) (divert-at t) divert.Post
 divert-element-copy-out-available t c = search needs
 
--- src/lib.rt:27:22
 divert-sub-available : (t : ℕ) → divert-lts.Need-sub-available (
   next-row-reads.Asked,
   next-row-reads.Learnt,
@@ -100,7 +93,6 @@ divert-sub-available t c =
     let b = c .before .before in
     omega (arith, enough-self (now (b .args .below)) (b .args .row) (b .pre .1 .row-ok) (b .args .d) (now (b .args .available)) (b .pre .1 .availables))
 
--- src/lib.rt:27:5
 divert-mul-available-2 : (t : ℕ) → divert-lts.Need-mul-available-2 (
   next-row-reads.Asked,
   next-row-reads.Learnt,
@@ -109,7 +101,6 @@ divert-mul-available-2 : (t : ℕ) → divert-lts.Need-mul-available-2 (
 ) (divert-at t) divert.Post
 divert-mul-available-2 t c = search needs
 
--- src/lib.rt:27:5
 divert-element-write-available : (t : ℕ) → divert-lts.Need-element-write-available (
   next-row-reads.Asked,
   next-row-reads.Learnt,
@@ -118,7 +109,6 @@ divert-element-write-available : (t : ℕ) → divert-lts.Need-element-write-ava
 ) (divert-at t) divert.Post
 divert-element-write-available t c = search needs
 
--- src/lib.rt:28:31
 divert-next-row-requires : (t : ℕ) → divert-lts.Need-next-row-requires (
   next-row-reads.Asked,
   next-row-reads.Learnt,
@@ -127,7 +117,6 @@ divert-next-row-requires : (t : ℕ) → divert-lts.Need-next-row-requires (
 ) (divert-at t) divert.Post
 divert-next-row-requires t c κs = search needs
 
--- src/lib.rt:28:23
 divert-enum-known-next : (t : ℕ) → divert-lts.Need-enum-known-next (
   next-row-reads.Asked,
   next-row-reads.Learnt,
@@ -136,7 +125,6 @@ divert-enum-known-next : (t : ℕ) → divert-lts.Need-enum-known-next (
 ) (divert-at t) divert.Post
 divert-enum-known-next t c = search needs
 
--- src/lib.rt:29:9
 divert-divert-requires : (t : ℕ) → divert-lts.Need-divert-requires (
   next-row-reads.Asked,
   next-row-reads.Learnt,
@@ -161,7 +149,6 @@ divert-enum-told : (t : ℕ) → divert-lts.Need-enum-told (
 ) (divert-at t) divert.Post
 divert-enum-told t c = search needs
 
--- src/lib.rt:22:1
 divert-returns : (t : ℕ) → divert-lts.Need-returns (
   next-row-reads.Asked,
   next-row-reads.Learnt,
@@ -172,7 +159,6 @@ divert-returns t c =
     let b = c .before .before .before .before .before .before .before .before .before in
     divert-row (now (b .args .below)) (b .args .row) (b .args .d) (now (b .args .flow)) (now (b .args .available)) (b .pre .1) (c .before .before .before .before .next .given .0 .0) _ _ (sym (c .before .before .before .before .before .before .next-row .ensures) ∙ c .before .before .before .before .next .given .1) (c .divert .ensures)
 
--- src/lib.rt:22:1
 divert-returns-2 : (t : ℕ) → divert-lts.Need-returns-2 (
   next-row-reads.Asked,
   next-row-reads.Learnt,

@@ -1,3 +1,4 @@
+-- `river::look_down` meets its contract. Assumes nothing.
 use Prim.Native.Nat.{ℕ, _-_, _<_}
 use mathlib.Core.Path.{sym, _∙_}
 use native.Mathlib.Omega.{arith}
@@ -26,7 +27,6 @@ abbrev look-down-below : ℕ → In 3 look-down-kinds.ps
 look-down-below t =
     and 3 look-down-kinds.ps (falls 3 look-down-kinds.ps _<_ μ-look-down t) look-down.Pre
 
--- src/lib.rt:76:8
 look-down-element-copy-out-if1 : (t : ℕ) → look-down-lts.Need-element-copy-out-if1 (
   lower-reads.Asked,
   lower-reads.Learnt,
@@ -37,7 +37,6 @@ look-down-element-copy-out-if1 : (t : ℕ) → look-down-lts.Need-element-copy-o
 ) (look-down-at t) look-down.Post
 look-down-element-copy-out-if1 t c = search needs
 
--- src/lib.rt:77:16
 look-down-add-result : (t : ℕ) → look-down-lts.Need-add-result (
   lower-reads.Asked,
   lower-reads.Learnt,
@@ -48,7 +47,6 @@ look-down-add-result : (t : ℕ) → look-down-lts.Need-add-result (
 ) (look-down-at t) look-down.Post
 look-down-add-result t c = search needs
 
--- src/lib.rt:77:9
 look-down-returns : (t : ℕ) → look-down-lts.Need-returns (
   lower-reads.Asked,
   lower-reads.Learnt,
@@ -61,7 +59,6 @@ look-down-returns t c =
     let b = c .before .before in
     look-called (now (b .args .below)) (b .args .row) (b .args .low) (now (b .args .short)) (now (b .args .available)) (b .pre .1) (c .if1 .taken)
 
--- src/lib.rt:79:9
 look-down-lower-requires : (t : ℕ) → look-down-lts.Need-lower-requires (
   lower-reads.Asked,
   lower-reads.Learnt,
@@ -72,7 +69,6 @@ look-down-lower-requires : (t : ℕ) → look-down-lts.Need-lower-requires (
 ) (look-down-at t) look-down.Post
 look-down-lower-requires t c κs = search needs
 
--- src/lib.rt:80:28
 look-down-next-row-requires : (t : ℕ) → look-down-lts.Need-next-row-requires (
   lower-reads.Asked,
   lower-reads.Learnt,
@@ -83,7 +79,6 @@ look-down-next-row-requires : (t : ℕ) → look-down-lts.Need-next-row-requires
 ) (look-down-at t) look-down.Post
 look-down-next-row-requires t c κs = search needs
 
--- src/lib.rt:80:20
 look-down-enum-known-next : (t : ℕ) → look-down-lts.Need-enum-known-next (
   lower-reads.Asked,
   lower-reads.Learnt,
@@ -94,7 +89,6 @@ look-down-enum-known-next : (t : ℕ) → look-down-lts.Need-enum-known-next (
 ) (look-down-at t) look-down.Post
 look-down-enum-known-next t c = search needs
 
--- src/lib.rt:81:9
 look-down-enum-told : (t : ℕ) → look-down-lts.Need-enum-told (
   lower-reads.Asked,
   lower-reads.Learnt,
@@ -105,7 +99,6 @@ look-down-enum-told : (t : ℕ) → look-down-lts.Need-enum-told (
 ) (look-down-at t) look-down.Post
 look-down-enum-told t c = search needs
 
--- src/lib.rt:81:9
 look-down-returns-2 : (t : ℕ) → look-down-lts.Need-returns-2 (
   lower-reads.Asked,
   lower-reads.Learnt,
@@ -118,7 +111,6 @@ look-down-returns-2 t c =
     let b = c .before .before .before .before .before .before in
     look-end (now (b .args .below)) (b .args .row) (b .args .low) (now (b .args .short)) (now (b .args .available)) (b .pre .1) (c .before .before .before .lower .result) (c .before .before .before .before .if1 .left) (c .before .before .before .lower .ensures) (sym (c .before .before .next-row .ensures) ∙ c .enum-told .given .1)
 
--- src/lib.rt:83:5
 look-down-look-down-requires : (t : ℕ) → look-down-lts.Need-look-down-requires (
   lower-reads.Asked,
   lower-reads.Learnt,
@@ -135,7 +127,6 @@ look-down-look-down-requires t c κs =
     let w = walk-on (now (b .args .below)) i q (b .pre .1 .row-ok) q e in
     (omega (arith, b .pre .0, w .0, w .1 .on), next-look (now (b .args .below)) i (b .args .low) (now (b .args .short)) (now (b .args .available)) (b .pre .1) (c .before .before .before .before .lower .result) (c .before .before .before .before .before .if1 .left) (c .before .before .before .before .lower .ensures) q e)
 
--- src/lib.rt:72:1
 look-down-returns-3 : (t : ℕ) → look-down-lts.Need-returns-3 (
   lower-reads.Asked,
   lower-reads.Learnt,

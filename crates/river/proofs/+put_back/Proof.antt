@@ -1,3 +1,4 @@
+-- `river::put_back` meets its contract. Assumes nothing.
 use Prim.Native.Nat.{ℕ, _+_, _-_, _<_}
 use mathlib.Core.Path.{sym, _∙_}
 use native.Mathlib.Omega.{arith}
@@ -25,7 +26,6 @@ abbrev put-back-below : ℕ → In 3 put-back-kinds.ps
 put-back-below t =
     and 3 put-back-kinds.ps (falls 3 put-back-kinds.ps _<_ μ-put-back t) put-back.Pre
 
--- src/lib.rt:38:17
 put-back-mul-flow : (t : ℕ) → put-back-lts.Need-mul-flow (
   next-row-reads.Asked,
   next-row-reads.Learnt,
@@ -34,7 +34,6 @@ put-back-mul-flow : (t : ℕ) → put-back-lts.Need-mul-flow (
 ) (put-back-at t) put-back.Post
 put-back-mul-flow t c = search needs
 
--- src/lib.rt:38:17
 put-back-element-copy-out-flow : (t : ℕ) → put-back-lts.Need-element-copy-out-flow (
   next-row-reads.Asked,
   next-row-reads.Learnt,
@@ -43,7 +42,6 @@ put-back-element-copy-out-flow : (t : ℕ) → put-back-lts.Need-element-copy-ou
 ) (put-back-at t) put-back.Post
 put-back-element-copy-out-flow t c = search needs
 
--- src/lib.rt:38:17
 put-back-add-flow : (t : ℕ) → put-back-lts.Need-add-flow (
   next-row-reads.Asked,
   next-row-reads.Learnt,
@@ -54,7 +52,6 @@ put-back-add-flow t c =
     let b = c .before in
     omega (arith, room-self (now (b .args .below)) (b .args .row) (b .pre .1 .row-ok) (b .args .d) (now (b .args .flow)) (b .pre .1 .flows))
 
--- src/lib.rt:38:5
 put-back-mul-flow-2 : (t : ℕ) → put-back-lts.Need-mul-flow-2 (
   next-row-reads.Asked,
   next-row-reads.Learnt,
@@ -63,7 +60,6 @@ put-back-mul-flow-2 : (t : ℕ) → put-back-lts.Need-mul-flow-2 (
 ) (put-back-at t) put-back.Post
 put-back-mul-flow-2 t c = search needs
 
--- src/lib.rt:38:5
 put-back-element-write-flow : (t : ℕ) → put-back-lts.Need-element-write-flow (
   next-row-reads.Asked,
   next-row-reads.Learnt,
@@ -72,7 +68,6 @@ put-back-element-write-flow : (t : ℕ) → put-back-lts.Need-element-write-flow
 ) (put-back-at t) put-back.Post
 put-back-element-write-flow t c = search needs
 
--- src/lib.rt:39:22
 put-back-mul-available : (t : ℕ) → put-back-lts.Need-mul-available (
   next-row-reads.Asked,
   next-row-reads.Learnt,
@@ -81,7 +76,6 @@ put-back-mul-available : (t : ℕ) → put-back-lts.Need-mul-available (
 ) (put-back-at t) put-back.Post
 put-back-mul-available t c = search needs
 
--- src/lib.rt:39:22
 put-back-element-copy-out-available : (t : ℕ) → put-back-lts.Need-element-copy-out-available (
   next-row-reads.Asked,
   next-row-reads.Learnt,
@@ -90,7 +84,6 @@ put-back-element-copy-out-available : (t : ℕ) → put-back-lts.Need-element-co
 ) (put-back-at t) put-back.Post
 put-back-element-copy-out-available t c = search needs
 
--- src/lib.rt:39:22
 put-back-add-available : (t : ℕ) → put-back-lts.Need-add-available (
   next-row-reads.Asked,
   next-row-reads.Learnt,
@@ -101,7 +94,6 @@ put-back-add-available t c =
     let b = c .before .before in
     omega (arith, room-self (now (b .args .below)) (b .args .row) (b .pre .1 .row-ok) (b .args .d) (now (b .args .available)) (b .pre .1 .availables))
 
--- src/lib.rt:39:5
 put-back-mul-available-2 : (t : ℕ) → put-back-lts.Need-mul-available-2 (
   next-row-reads.Asked,
   next-row-reads.Learnt,
@@ -110,7 +102,6 @@ put-back-mul-available-2 : (t : ℕ) → put-back-lts.Need-mul-available-2 (
 ) (put-back-at t) put-back.Post
 put-back-mul-available-2 t c = search needs
 
--- src/lib.rt:39:5
 put-back-element-write-available : (t : ℕ) → put-back-lts.Need-element-write-available (
   next-row-reads.Asked,
   next-row-reads.Learnt,
@@ -119,7 +110,6 @@ put-back-element-write-available : (t : ℕ) → put-back-lts.Need-element-write
 ) (put-back-at t) put-back.Post
 put-back-element-write-available t c = search needs
 
--- src/lib.rt:40:31
 put-back-next-row-requires : (t : ℕ) → put-back-lts.Need-next-row-requires (
   next-row-reads.Asked,
   next-row-reads.Learnt,
@@ -128,7 +118,6 @@ put-back-next-row-requires : (t : ℕ) → put-back-lts.Need-next-row-requires (
 ) (put-back-at t) put-back.Post
 put-back-next-row-requires t c κs = search needs
 
--- src/lib.rt:40:23
 put-back-enum-known-next : (t : ℕ) → put-back-lts.Need-enum-known-next (
   next-row-reads.Asked,
   next-row-reads.Learnt,
@@ -137,7 +126,6 @@ put-back-enum-known-next : (t : ℕ) → put-back-lts.Need-enum-known-next (
 ) (put-back-at t) put-back.Post
 put-back-enum-known-next t c = search needs
 
--- src/lib.rt:41:9
 put-back-put-back-requires : (t : ℕ) → put-back-lts.Need-put-back-requires (
   next-row-reads.Asked,
   next-row-reads.Learnt,
@@ -162,7 +150,6 @@ put-back-enum-told : (t : ℕ) → put-back-lts.Need-enum-told (
 ) (put-back-at t) put-back.Post
 put-back-enum-told t c = search needs
 
--- src/lib.rt:34:1
 put-back-returns : (t : ℕ) → put-back-lts.Need-returns (
   next-row-reads.Asked,
   next-row-reads.Learnt,
@@ -173,7 +160,6 @@ put-back-returns t c =
     let b = c .before .before .before .before .before .before .before .before .before in
     return-row (now (b .args .below)) (b .args .row) (b .args .d) (now (b .args .flow)) (now (b .args .available)) (b .pre .1) (c .before .before .before .before .next .given .0 .0) _ _ (sym (c .before .before .before .before .before .before .next-row .ensures) ∙ c .before .before .before .before .next .given .1) (c .put-back .ensures)
 
--- src/lib.rt:34:1
 put-back-returns-2 : (t : ℕ) → put-back-lts.Need-returns-2 (
   next-row-reads.Asked,
   next-row-reads.Learnt,

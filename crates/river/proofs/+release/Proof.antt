@@ -1,3 +1,4 @@
+-- `river::release` meets its contract. Assumes nothing.
 use Prim.Native.Nat.{ℕ, _+_, _-_, _<_}
 use mathlib.Core.Path.{sym, _∙_}
 use mathlib.Core.List.{[]}
@@ -25,7 +26,6 @@ release-at t = and 2 release-kinds.ps (is 2 release-kinds.ps μ-release t) relea
 abbrev release-below : ℕ → In 2 release-kinds.ps
 release-below t = and 2 release-kinds.ps (falls 2 release-kinds.ps _<_ μ-release t) release.Pre
 
--- src/lib.rt:51:9
 release-returns : (t : ℕ) → release-lts.Need-returns (
   next-row-reads.Asked,
   next-row-reads.Learnt,
@@ -36,7 +36,6 @@ release-returns t c =
     let b = c .before in
     release-stop (now (b .args .below)) (b .args .row) (b .args .d) (b .args .stop) (now (b .args .flow)) (b .pre .1) (c .if1 .taken)
 
--- src/lib.rt:53:17
 release-mul-flow : (t : ℕ) → release-lts.Need-mul-flow (
   next-row-reads.Asked,
   next-row-reads.Learnt,
@@ -45,7 +44,6 @@ release-mul-flow : (t : ℕ) → release-lts.Need-mul-flow (
 ) (release-at t) release.Post
 release-mul-flow t c = search needs
 
--- src/lib.rt:53:17
 release-element-copy-out-flow : (t : ℕ) → release-lts.Need-element-copy-out-flow (
   next-row-reads.Asked,
   next-row-reads.Learnt,
@@ -54,7 +52,6 @@ release-element-copy-out-flow : (t : ℕ) → release-lts.Need-element-copy-out-
 ) (release-at t) release.Post
 release-element-copy-out-flow t c = search needs
 
--- src/lib.rt:53:17
 release-add-flow : (t : ℕ) → release-lts.Need-add-flow (
   next-row-reads.Asked,
   next-row-reads.Learnt,
@@ -65,7 +62,6 @@ release-add-flow t c =
     let b = c .before .before in
     omega (arith, room-self (now (b .args .below)) (b .args .row) (b .pre .1 .row-ok) (b .args .d) (now (b .args .flow)) (b .pre .1 .flows))
 
--- src/lib.rt:53:5
 release-mul-flow-2 : (t : ℕ) → release-lts.Need-mul-flow-2 (
   next-row-reads.Asked,
   next-row-reads.Learnt,
@@ -74,7 +70,6 @@ release-mul-flow-2 : (t : ℕ) → release-lts.Need-mul-flow-2 (
 ) (release-at t) release.Post
 release-mul-flow-2 t c = search needs
 
--- src/lib.rt:53:5
 release-element-write-flow : (t : ℕ) → release-lts.Need-element-write-flow (
   next-row-reads.Asked,
   next-row-reads.Learnt,
@@ -83,7 +78,6 @@ release-element-write-flow : (t : ℕ) → release-lts.Need-element-write-flow (
 ) (release-at t) release.Post
 release-element-write-flow t c = search needs
 
--- src/lib.rt:54:31
 release-next-row-requires : (t : ℕ) → release-lts.Need-next-row-requires (
   next-row-reads.Asked,
   next-row-reads.Learnt,
@@ -92,7 +86,6 @@ release-next-row-requires : (t : ℕ) → release-lts.Need-next-row-requires (
 ) (release-at t) release.Post
 release-next-row-requires t c κs = search needs
 
--- src/lib.rt:54:23
 release-enum-known-next : (t : ℕ) → release-lts.Need-enum-known-next (
   next-row-reads.Asked,
   next-row-reads.Learnt,
@@ -101,7 +94,6 @@ release-enum-known-next : (t : ℕ) → release-lts.Need-enum-known-next (
 ) (release-at t) release.Post
 release-enum-known-next t c = search needs
 
--- src/lib.rt:55:9
 release-release-requires : (t : ℕ) → release-lts.Need-release-requires (
   next-row-reads.Asked,
   next-row-reads.Learnt,
@@ -125,7 +117,6 @@ release-enum-told : (t : ℕ) → release-lts.Need-enum-told (
 ) (release-at t) release.Post
 release-enum-told t c = search needs
 
--- src/lib.rt:46:1
 release-returns-2 : (t : ℕ) → release-lts.Need-returns-2 (
   next-row-reads.Asked,
   next-row-reads.Learnt,
@@ -136,7 +127,6 @@ release-returns-2 t c =
     let b = c .before .before .before .before .before .before .before .before in
     release-row (now (b .args .below)) (b .args .row) (b .args .d) (b .args .stop) (now (b .args .flow)) (b .pre .1) (c .before .before .before .next .given .0 .0) _ (sym (c .before .before .before .before .before .next-row .ensures) ∙ c .before .before .before .next .given .1) (c .before .before .before .before .before .before .before .if1 .left) (c .release .ensures)
 
--- src/lib.rt:46:1
 release-returns-3 : (t : ℕ) → release-lts.Need-returns-3 (
   next-row-reads.Asked,
   next-row-reads.Learnt,

@@ -1,18 +1,16 @@
+-- `river::look` meets its contract. Assumes nothing.
 use mathlib.Core.Path.{_∙_}
 use borrow.Author.Needs.{needs}
 use Rattle.river.proofs.look.Statement.{statement}
 use Rattle.river.proofs.look.Tie as tie
 use Rattle.river.proofs.Walks.{seen-low, seen-called}
 
--- src/lib.rt:91:9
 look-down-requires : tie.Need-look-down-requires
 look-down-requires c κs = search needs
 
--- src/lib.rt:93:9
 returns : tie.Need-returns
 returns c = seen-low (c .before .look-down .result) (c .if1 .taken) ∙ c .before .look-down .ensures
 
--- src/lib.rt:87:1
 returns-2 : tie.Need-returns-2
 returns-2 c = seen-called (c .before .look-down .result) (c .if1 .left) ∙ c .before .look-down .ensures
 

@@ -1,122 +1,90 @@
+-- `rivercalls::wrong_lengths` meets its contract. Assumes nothing.
 use borrow.Author.Needs.{needs}
 use Rattle.rivercalls.proofs.wrong_lengths.Statement.{statement}
 use Rattle.rivercalls.proofs.wrong_lengths.Tie as tie
-use Rattle.rivercalls.proofs.wrong_lengths.Reads as reads
-use Rattle.rivercalls.proofs.wrong_lengths.Lts as lts
-use Rattle.calls.proofs.fresh.fresh.Reads as fresh-reads
-use Rattle.monthrun.proofs.month.month.Reads as month-reads
-use Rattle.rivercalls.proofs.say.Reads as say-reads
 use mathlib.Core.Path.{_∙_}
 
--- src/main.rt:48:9
 slice-aggregate-say : tie.Need-slice-aggregate-say
 slice-aggregate-say c = search needs
 
--- src/main.rt:48:46
 slice-aggregate-fresh : tie.Need-slice-aggregate-fresh
 slice-aggregate-fresh c = search needs
 
--- src/main.rt:48:34
 fresh-requires : tie.Need-fresh-requires
 fresh-requires c κs = search needs
 
--- src/main.rt:48:5
 say-requires : tie.Need-say-requires
 say-requires c κs = search needs
 
--- src/main.rt:50:9
 slice-aggregate-say-2 : tie.Need-slice-aggregate-say-2
 slice-aggregate-say-2 c = search needs
 
--- src/main.rt:51:21
 array-share-prefix-sheet : tie.Need-array-share-prefix-sheet
 array-share-prefix-sheet c = search needs
 
--- src/main.rt:51:21
 slice-aggregate-month : tie.Need-slice-aggregate-month
 slice-aggregate-month c = search needs
 
--- src/main.rt:51:34
 slice-aggregate-month-2 : tie.Need-slice-aggregate-month-2
 slice-aggregate-month-2 c = search needs
 
--- src/main.rt:51:9
 month-requires : tie.Need-month-requires
 month-requires c κs = search needs
 
--- src/main.rt:49:5
 say-requires-2 : tie.Need-say-requires-2
 say-requires-2 c κs = search needs
 
--- src/main.rt:54:9
 slice-aggregate-say-3 : tie.Need-slice-aggregate-say-3
 slice-aggregate-say-3 c = search needs
 
--- src/main.rt:55:21
 array-share-prefix-sheet-2 : tie.Need-array-share-prefix-sheet-2
 array-share-prefix-sheet-2 c = search needs
 
--- src/main.rt:55:21
 slice-aggregate-month-3 : tie.Need-slice-aggregate-month-3
 slice-aggregate-month-3 c = search needs
 
--- src/main.rt:55:9
 month-requires-2 : tie.Need-month-requires-2
 month-requires-2 c κs = search needs
 
--- src/main.rt:53:5
 say-requires-3 : tie.Need-say-requires-3
 say-requires-3 c κs = search needs
 
--- src/main.rt:58:9
 slice-aggregate-say-4 : tie.Need-slice-aggregate-say-4
 slice-aggregate-say-4 c = search needs
 
--- src/main.rt:59:21
 slice-aggregate-month-4 : tie.Need-slice-aggregate-month-4
 slice-aggregate-month-4 c = search needs
 
--- src/main.rt:59:9
 month-requires-3 : tie.Need-month-requires-3
 month-requires-3 c κs = search needs
 
--- src/main.rt:57:5
 say-requires-4 : tie.Need-say-requires-4
 say-requires-4 c κs = search needs
 
--- src/main.rt:63:9
 slice-aggregate-say-5 : tie.Need-slice-aggregate-say-5
 slice-aggregate-say-5 c = search needs
 
--- src/main.rt:64:21
 array-share-prefix-sheet-3 : tie.Need-array-share-prefix-sheet-3
 array-share-prefix-sheet-3 c = search needs
 
--- src/main.rt:64:21
 slice-aggregate-month-5 : tie.Need-slice-aggregate-month-5
 slice-aggregate-month-5 c = search needs
 
--- src/main.rt:64:41
 slice-aggregate-month-6 : tie.Need-slice-aggregate-month-6
 slice-aggregate-month-6 c = search needs
 
--- src/main.rt:64:9
 month-requires-4 : tie.Need-month-requires-4
 month-requires-4 c κs = search needs
 
--- src/main.rt:62:5
 say-requires-5 : tie.Need-say-requires-5
 say-requires-5 c κs = search needs
 
--- src/main.rt:45:1
 same-length : tie.Need-same-length
 same-length c = search needs
 
--- src/main.rt:45:1
 same-length-2 : tie.Need-same-length-2
 same-length-2 c = c .before .before .before .before .before .before .before .before .before .before .before .before .before .before .month3 .kept .1 .1 .1 .0 ∙ c .before .before .before .before .before .before .before .before .before .before .before .before .before .before .before .before .before .before .before .before .before .before .before .before .month2 .kept .1 .1 .1 .0 ∙ c .before .before .before .before .before .before .before .before .before .before .before .before .before .before .before .before .before .before .before .before .before .before .before .before .before .before .before .before .before .before .before .before .before .month .kept .1 .1 .1 .0
 
--- src/main.rt:45:1
 returns : tie.Need-returns
 returns c = search needs
 

@@ -1,5 +1,5 @@
 -- `basin::reservoirs::check_reservoirs` meets its contract. The loop's invariant: the reservoirs not yet looked at give the verdict. Assumes nothing.
-use mathlib.Core.Path.{_≡_, refl, sym, _∙_}
+use mathlib.Core.Path.{_≡_, refl, _∙_}
 use Prim.Native.Nat.{_-_, _≤_}
 use native.Mathlib.Omega.{arith}
 use borrow.Author.Needs.{needs}

@@ -1,3 +1,4 @@
+-- `grants::grants::river_part` meets its contract. Assumes nothing.
 use mathlib.Core.Path.{sym, _∙_}
 use native.Mathlib.Omega.{arith}
 use borrow.Author.Needs.{needs}
@@ -7,83 +8,67 @@ use Rattle.grants.proofs.grants.river_part.Tie as tie
 use Rattle.general.proofs.Tests.{eqb-other}
 use Rattle.grants.proofs.Looks.{own-in, called-in, low-in, low-on, gave-nothing, gave-instream, gave-called, gave-low}
 
--- src/grants.rt:55:9
 returns : tie.Need-returns
 returns c =
     let b = c .before .before in
     gave-nothing (now (b .args .stations)) (now (b .args .below)) (now (b .args .available)) (now (b .args .short)) (b .args .kind) (b .args .row) (b .args .demand) (c .if1 .taken) _
 
--- src/grants.rt:62:34
 mul-lesser : tie.Need-mul-lesser
 mul-lesser c = search needs
 
--- src/grants.rt:62:34
 element-copy-out-lesser : tie.Need-element-copy-out-lesser
 element-copy-out-lesser c = search needs
 
--- src/grants.rt:62:19
 lesser-requires : tie.Need-lesser-requires
 lesser-requires c κs = search needs
 
--- src/grants.rt:63:38
 station-number-requires : tie.Need-station-number-requires
 station-number-requires c κs =
     let b = c .before .before .before .before .before in
     own-in (now (b .args .stations)) (now (b .args .below)) (b .args .row) (b .pre)
 
--- src/grants.rt:61:9
 returns-2 : tie.Need-returns-2
 returns-2 c =
     let b = c .before .before .before .before .before .before in
     gave-instream (now (b .args .stations)) (now (b .args .below)) (now (b .args .available)) (now (b .args .short)) (b .args .kind) (b .args .row) (b .args .demand) _ _ (c .before .before .before .if2 .taken) (c .before .lesser .ensures .0) (c .station-number .ensures)
 
--- src/grants.rt:66:9
 look-requires : tie.Need-look-requires
 look-requires c κs = search needs
 
--- src/grants.rt:68:22
 enum-known-seen : tie.Need-enum-known-seen
 enum-known-seen c = search needs
 
--- src/grants.rt:70:36
 station-number-requires-2 : tie.Need-station-number-requires-2
 station-number-requires-2 c κs =
     let b = c .before .before .before .before .before .before .before in
     called-in (now (b .args .stations)) (now (b .args .below)) (now (b .args .available)) (now (b .args .short)) (b .args .row) (b .pre) (c .before .seen .given .0 .0) (sym (c .before .before .before .look .ensures) ∙ c .before .seen .given .1)
 
--- src/grants.rt:72:19
 enum-known-seen-2 : tie.Need-enum-known-seen-2
 enum-known-seen-2 c = search needs
 
--- src/grants.rt:73:34
 mul-lesser-2 : tie.Need-mul-lesser-2
 mul-lesser-2 c =
     let b = c .before .before .before .before .before .before .before in
     omega (arith, low-on (now (b .args .stations)) (now (b .args .below)) (now (b .args .available)) (now (b .args .short)) (b .args .row) (b .pre) (c .before .seen2 .given .0 .0) (sym (c .before .before .before .look .ensures) ∙ c .before .seen2 .given .1))
 
--- src/grants.rt:73:34
 element-copy-out-lesser-2 : tie.Need-element-copy-out-lesser-2
 element-copy-out-lesser-2 c =
     let b = c .before .before .before .before .before .before .before in
     omega (arith, low-on (now (b .args .stations)) (now (b .args .below)) (now (b .args .available)) (now (b .args .short)) (b .args .row) (b .pre) (c .before .seen2 .given .0 .0) (sym (c .before .before .before .look .ensures) ∙ c .before .seen2 .given .1))
 
--- src/grants.rt:73:19
 lesser-requires-2 : tie.Need-lesser-requires-2
 lesser-requires-2 c κs = search needs
 
--- src/grants.rt:74:38
 station-number-requires-3 : tie.Need-station-number-requires-3
 station-number-requires-3 c κs =
     let b = c .before .before .before .before .before .before .before .before .before in
     low-in (now (b .args .stations)) (now (b .args .below)) (now (b .args .available)) (now (b .args .short)) (b .args .row) (b .pre) (c .before .before .before .seen2 .given .0 .0) (sym (c .before .before .before .before .before .look .ensures) ∙ c .before .before .before .seen2 .given .1)
 
--- src/grants.rt:42:1
 returns-3 : tie.Need-returns-3
 returns-3 c =
     let b = c .before .before .before .before .before .before .before .before in
     gave-called (now (b .args .stations)) (now (b .args .below)) (now (b .args .available)) (now (b .args .short)) (b .args .kind) (b .args .row) (b .args .demand) (eqb-other (b .args .kind) 3 (c .before .before .before .before .before .if2 .left)) (c .before .before .before .before .look .result) (c .before .before .before .before .look .ensures) (c .before .before .seen .given .0 .0) _ (c .before .before .seen .given .1) (c .station-number2 .ensures)
 
--- src/grants.rt:42:1
 returns-4 : tie.Need-returns-4
 returns-4 c =
     let b = c .before .before .before .before .before .before .before .before .before .before in

@@ -1,33 +1,22 @@
+-- `grants::stages::demand_of` meets its contract. Assumes nothing.
 use Rattle.records.specs.Records.{kindOf, rightRecord}
 use Rattle.records.specs.declared.rights.RightRecord.{RightRecord}
 use Rattle.grants.specs.Stages.{isStorage, amountIn, RoomLeft, askOf}
 use Rattle.grants.proofs.RightKinds.{ask-plain, ask-storage}
-use Prim.Native.Nat.{ℕ, zero, suc, _+_, _-_, _*_, _/_, _%_, _≤_, _<_, min}
-use mathlib.Core.Path.{_≡_, refl, sym, ap, _∙_, subst}
-use mathlib.Core.List.{List, [], _∷_, _++_}
-use mathlib.Core.Bool.{Bool, true, false, not, cond}
-use native.Mathlib.Omega.{arith}
+use Prim.Native.Nat.{ℕ, _-_}
+use mathlib.Core.Path.{_≡_, sym, ap, _∙_, subst}
+use mathlib.Core.Bool.{true}
 use borrow.Author.Needs.{needs}
-use borrow.Author.Tests.{lt-ltb, le-ltb, eq-eqb, ne-eqb, le-leb, lt-leb, not-true, not-false}
-use lib.ListN.{length, getD, set, drop, length-set}
 use denote.Ref.{now}
 use Rattle.grants.proofs.stages.demand_of.Statement.{statement}
 use Rattle.grants.proofs.stages.demand_of.Tie as tie
-use Rattle.grants.proofs.stages.demand_of.Reads as reads
-use Rattle.grants.proofs.stages.demand_of.Lts as lts
-use Rattle.grants.proofs.stages.is_storage.Reads as is-storage-reads
-use Rattle.grants.proofs.stages.scheduled.Reads as scheduled-reads
-use Rattle.grants.proofs.stages.storage_ask.Reads as storage-ask-reads
 
--- src/stages.rt:75:9
 scheduled-requires : tie.Need-scheduled-requires
 scheduled-requires c κs = search needs
 
--- src/stages.rt:76:8
 is-storage-requires : tie.Need-is-storage-requires
 is-storage-requires c κs = search needs
 
--- src/stages.rt:77:9
 storage-ask-requires : tie.Need-storage-ask-requires
 storage-ask-requires c κs =
     let b = c .before .before .before .before .before .before in
@@ -35,7 +24,6 @@ storage-ask-requires c κs =
     let k : isStorage (kindOf ((rightRecord (now (b .args .rights)) (b .args .i)) .kind)) ≡ true = ap (λ (r : RightRecord). isStorage (kindOf (r .kind))) (sym e) ∙ sym (c .before .is-storage .ensures) ∙ c .if1 .taken in
     (b .pre .1 .most, b .pre .1 .size, subst (λ (r : RightRecord). RoomLeft (now (b .args .reservoirs)) r (b .args .i) (now (b .args .board))) (sym e) (b .pre .1 .stores k))
 
--- src/stages.rt:77:9
 returns : tie.Need-returns
 returns c =
     let b = c .before .before .before .before .before .before .before in
@@ -43,7 +31,6 @@ returns c =
     ask-storage (kindOf (b .args .right .kind)) (now (b .args .reservoirs)) (now (b .args .rights)) (b .args .i) (b .args .m) (now (b .args .board)) (c .storage-ask .result) (sym (c .before .before .is-storage .ensures) ∙ c .before .if1 .taken)
     (c .storage-ask .ensures ∙ ap (λ (x : ℕ). askOf (now (b .args .reservoirs)) (b .args .right) (b .args .i) x (now (b .args .board))) (c .before .before .before .scheduled .ensures) ∙ ap (λ (r : RightRecord). askOf (now (b .args .reservoirs)) r (b .args .i) (amountIn (now (b .args .rights)) (b .args .i) (b .args .m)) (now (b .args .board))) e)
 
--- src/stages.rt:64:1
 returns-2 : tie.Need-returns-2
 returns-2 c =
     let b = c .before .before .before .before .before .before in

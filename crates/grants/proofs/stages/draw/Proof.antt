@@ -1,3 +1,4 @@
+-- `grants::stages::draw` meets its contract. Assumes nothing.
 use mathlib.Core.Path.{ap, _∙_}
 use native.Mathlib.Omega.{arith}
 use borrow.Author.Needs.{needs}
@@ -8,84 +9,69 @@ use Rattle.grants.proofs.stages.draw.Tie as tie
 use Rattle.grants.proofs.RightKinds.{drawn-not, drawn-nothing, drawn-yes}
 use Rattle.records.specs.declared.reservoirs.ReservoirRecord.{ReservoirRecord}
 
--- src/stages.rt:154:9
 returns : tie.Need-returns
 returns c =
     let b = c .before .before .before in
     drawn-not (b .args .kind) (now (b .args .below)) (now (b .args .reservoirs)) (b .args .v) (b .args .row) (b .args .lacking) (now (b .args .flow)) (now (b .args .board)) (c .if1 .taken)
 
--- src/stages.rt:156:22
 add-held : tie.Need-add-held
 add-held c =
     let b = c .before .before .before in
     omega (arith, b .pre .there (eq-eqb _ _ (c .if1 .left)))
 
--- src/stages.rt:156:16
 mul-held : tie.Need-mul-held
 mul-held c =
     let b = c .before .before .before in
     omega (arith, b .pre .there (eq-eqb _ _ (c .if1 .left)))
 
--- src/stages.rt:156:16
 slice-read-held : tie.Need-slice-read-held
 slice-read-held c =
     let b = c .before .before .before .before in
     omega (arith, b .pre .there (eq-eqb _ _ (c .before .if1 .left)), b .pre .size)
 
--- src/stages.rt:157:9
 lesser-requires : tie.Need-lesser-requires
 lesser-requires c κs = search needs
 
--- src/stages.rt:159:9
 returns-2 : tie.Need-returns-2
 returns-2 c =
     let b = c .before .before .before .before .before .before in
     drawn-nothing (b .args .kind) (now (b .args .below)) (now (b .args .reservoirs)) (b .args .v) (b .args .row) (b .args .lacking) (now (b .args .flow)) (now (b .args .board)) (c .before .lesser .result) (c .before .before .before .if1 .left) (c .before .lesser .ensures .0) (c .if2 .taken)
 
--- src/stages.rt:161:20
 sub-board : tie.Need-sub-board
 sub-board c = search needs
 
--- src/stages.rt:161:11
 add-board : tie.Need-add-board
 add-board c =
     let b = c .before .before .before .before .before .before in
     omega (arith, b .pre .there (eq-eqb _ _ (c .before .before .before .if1 .left)))
 
--- src/stages.rt:161:5
 mul-board : tie.Need-mul-board
 mul-board c =
     let b = c .before .before .before .before .before .before in
     omega (arith, b .pre .there (eq-eqb _ _ (c .before .before .before .if1 .left)))
 
--- src/stages.rt:161:5
 slice-write-board : tie.Need-slice-write-board
 slice-write-board c =
     let b = c .before .before .before .before .before .before in
     omega (arith, b .pre .there (eq-eqb _ _ (c .before .before .before .if1 .left)), b .pre .size)
 
--- src/stages.rt:162:9
 reservoir-at-requires : tie.Need-reservoir-at-requires
 reservoir-at-requires c κs =
     let b = c .before .before .before .before .before .before in
     b .pre .there (eq-eqb _ _ (c .before .before .before .if1 .left)) .0
 
--- src/stages.rt:163:26
 index-requires : tie.Need-index-requires
 index-requires c κs = search needs
 
--- src/stages.rt:163:5
 release-requires : tie.Need-release-requires
 release-requires c κs =
     let b = c .before .before .before .before .before .before .before .before .before in
     let e = c .index .ensures .0 ∙ ap (λ (x : ReservoirRecord). x .row) (c .before .before .reservoir-at .ensures) in
     rw e (b .pre .release-ok (eq-eqb _ _ (c .before .before .before .before .before .before .if1 .left)) (c .before .before .before .before .lesser .result) (c .before .before .before .before .lesser .ensures .1))
 
--- src/stages.rt:140:1
 same-length : tie.Need-same-length
 same-length c = search needs
 
--- src/stages.rt:140:1
 returns-3 : tie.Need-returns-3
 returns-3 c =
     let b = c .before .before .before .before .before .before .before .before .before .before in

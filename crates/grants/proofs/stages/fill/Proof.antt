@@ -1,44 +1,31 @@
+-- `grants::stages::fill` meets its contract. Assumes nothing.
 use Rattle.grants.specs.Stages.{capacityIn}
 use Rattle.records.specs.Records.{kindOf}
 use Rattle.grants.proofs.RightKinds.{stored-is, stored-not}
-use Prim.Native.Nat.{ℕ, zero, suc, _+_, _-_, _*_, _/_, _%_, _≤_, _<_, min}
-use mathlib.Core.Path.{_≡_, refl, sym, ap, _∙_, subst}
-use mathlib.Core.List.{List, [], _∷_, _++_}
-use mathlib.Core.Bool.{Bool, true, false, not, cond}
-use native.Mathlib.Omega.{arith}
+use Prim.Native.Nat.{_-_}
+use mathlib.Core.Path.{sym, _∙_}
 use borrow.Author.Needs.{needs}
-use borrow.Author.Tests.{lt-ltb, le-ltb, eq-eqb, ne-eqb, le-leb, lt-leb, not-true, not-false}
-use lib.ListN.{length, getD, set, drop, length-set}
 use denote.Ref.{now}
 use Rattle.grants.proofs.stages.fill.Statement.{statement}
 use Rattle.grants.proofs.stages.fill.Tie as tie
-use Rattle.grants.proofs.stages.fill.Reads as reads
-use Rattle.grants.proofs.stages.fill.Lts as lts
-use Rattle.grants.proofs.stages.is_storage.Reads as is-storage-reads
-use Rattle.grants.proofs.stages.pour.Reads as pour-reads
 
--- src/stages.rt:125:8
 is-storage-requires : tie.Need-is-storage-requires
 is-storage-requires c κs = search needs
 
--- src/stages.rt:126:9
 pour-requires : tie.Need-pour-requires
 pour-requires c κs =
     let b = c .before .before .before .before .before in
     let k = sym (c .before .before .is-storage .ensures) ∙ c .before .if1 .taken in
     record { most = b .pre .most; small = b .pre .small; board = b .pre .board; eight = b .pre .there k .0; there = b .pre .there k .1 }
 
--- src/stages.rt:121:1
 same-length : tie.Need-same-length
 same-length c = search needs
 
--- src/stages.rt:121:1
 returns : tie.Need-returns
 returns c =
     let b = c .before .before .before .before .before .before .before .before in
     c .before .before .pour .ensures ∙ stored-is (kindOf (b .args .kind)) (capacityIn (now (b .args .reservoirs)) (b .args .v)) (b .args .v) (b .args .i) (b .args .d) (now (b .args .board)) (sym (c .before .before .before .before .before .is-storage .ensures) ∙ c .before .before .before .before .if1 .taken)
 
--- src/stages.rt:121:1
 returns-2 : tie.Need-returns-2
 returns-2 c =
     let b = c .before .before .before .before in

@@ -1,149 +1,114 @@
+-- `grants::stages::pour` meets its contract. Assumes nothing.
 use Rattle.records.specs.declared.reservoirs.ReservoirRecord.{ReservoirRecord}
 use Rattle.grants.specs.Stages.{capacityIn}
 use Rattle.grants.proofs.RightKinds.{nine, poured-none, poured-part, poured-full}
-use Prim.Native.Nat.{_^_, ℕ, zero, suc, _+_, _-_, _*_, _/_, _%_, _≤_, _<_, min}
-use mathlib.Core.Path.{_≡_, refl, sym, ap, _∙_, subst}
-use mathlib.Core.List.{List, [], _∷_, _++_}
-use mathlib.Core.Bool.{Bool, true, false, not, cond}
+use Prim.Native.Nat.{_^_, ℕ, _+_, _-_}
+use mathlib.Core.Path.{sym, ap, _∙_}
 use native.Mathlib.Omega.{arith}
 use borrow.Author.Needs.{needs}
-use borrow.Author.Tests.{lt-ltb, le-ltb, eq-eqb, ne-eqb, le-leb, lt-leb, not-true, not-false}
-use lib.ListN.{length, getD, set, drop, length-set}
+use lib.ListN.{getD, set, length-set}
 use denote.Ref.{now}
 use Rattle.grants.proofs.stages.pour.Statement.{statement}
 use Rattle.grants.proofs.stages.pour.Tie as tie
-use Rattle.grants.proofs.stages.pour.Reads as reads
-use Rattle.grants.proofs.stages.pour.Lts as lts
-use Rattle.records.proofs.reservoirs.reservoir_at.Reads as reservoir-at-reads
-use Rattle.returns.proofs.numbers.wide32.Reads as wide32-reads
-use Rattle.returns.proofs.numbers.wide_size.Reads as wide-size-reads
-use Rattle.grants.proofs.stages.power.Reads as power-reads
 
--- src/stages.rt:106:9
 reservoir-at-requires : tie.Need-reservoir-at-requires
 reservoir-at-requires c κs = search needs
 
--- src/stages.rt:107:22
 add-held : tie.Need-add-held
 add-held c = search needs
 
--- src/stages.rt:107:16
 mul-held : tie.Need-mul-held
 mul-held c = search needs
 
--- src/stages.rt:107:16
 slice-read-held : tie.Need-slice-read-held
 slice-read-held c = search needs
 
--- src/stages.rt:107:16
 add-held-2 : tie.Need-add-held-2
 add-held-2 c =
     let b = c .before .before .before .before in
     omega (arith, b .pre .board .room .room (1 + b .args .v), b .pre .small)
 
--- src/stages.rt:108:23
 add-taken : tie.Need-add-taken
 add-taken c = search needs
 
--- src/stages.rt:108:17
 mul-taken : tie.Need-mul-taken
 mul-taken c = search needs
 
--- src/stages.rt:108:17
 slice-read-taken : tie.Need-slice-read-taken
 slice-read-taken c = search needs
 
--- src/stages.rt:108:17
 add-taken-2 : tie.Need-add-taken-2
 add-taken-2 c =
     let b = c .before .before .before .before .before in
     omega (arith, b .pre .board .room .room (10 + b .args .i), b .pre .small)
 
--- src/stages.rt:109:11
 add-board : tie.Need-add-board
 add-board c = search needs
 
--- src/stages.rt:109:5
 mul-board : tie.Need-mul-board
 mul-board c = search needs
 
--- src/stages.rt:109:5
 slice-write-board : tie.Need-slice-write-board
 slice-write-board c = search needs
 
--- src/stages.rt:110:11
 add-board-2 : tie.Need-add-board-2
 add-board-2 c = search needs
 
--- src/stages.rt:110:5
 mul-board-2 : tie.Need-mul-board-2
 mul-board-2 c = search needs
 
--- src/stages.rt:110:5
 slice-write-board-2 : tie.Need-slice-write-board-2
 slice-write-board-2 c =
     let b = c .before .before .before .before .before in
     let l = now (b .args .board) in
     omega (arith, b .pre .board .size, b .pre .most, length-set l (1 + b .args .v) (getD l (1 + b .args .v) 0 + b .args .d))
 
--- src/stages.rt:112:9
 same-length : tie.Need-same-length
 same-length c = search needs
 
--- src/stages.rt:112:9
 returns : tie.Need-returns
 returns c =
     let b = c .before .before .before .before .before .before in
     poured-none (capacityIn (now (b .args .reservoirs)) (b .args .v)) (b .args .v) (b .args .i) (b .args .d) (now (b .args .board)) (c .if1 .taken)
 
--- src/stages.rt:114:16
 wide32-requires : tie.Need-wide32-requires
 wide32-requires c κs = search needs
 
--- src/stages.rt:115:9
 same-length-2 : tie.Need-same-length-2
 same-length-2 c = search needs
 
--- src/stages.rt:115:9
 returns-2 : tie.Need-returns-2
 returns-2 c =
     let b = c .before .before .before .before .before .before .before .before in
     let e = c .before .wide32 .ensures .0 ∙ ap (λ (x : ReservoirRecord). x .capacity) (c .before .before .before .before .before .reservoir-at .ensures) in
     poured-part (capacityIn (now (b .args .reservoirs)) (b .args .v)) (b .args .v) (b .args .i) (b .args .d) (now (b .args .board)) (λ z. c .if2 .taken (z ∙ sym e))
 
--- src/stages.rt:117:16
 slice-read-board : tie.Need-slice-read-board
 slice-read-board c =
     let b = c .before .before .before .before .before .before .before .before .before in
     let l = now (b .args .board) in
     omega (arith, b .pre .board .size, length-set l (1 + b .args .v) (getD l (1 + b .args .v) 0 + b .args .d), length-set (set l (1 + b .args .v) (getD l (1 + b .args .v) 0 + b .args .d)) (10 + b .args .i) (getD l (10 + b .args .i) 0 + b .args .d))
 
--- src/stages.rt:117:33
 wide-size-requires : tie.Need-wide-size-requires
 wide-size-requires c κs = search needs
 
--- src/stages.rt:117:27
 power-requires : tie.Need-power-requires
 power-requires c κs = search needs
 
--- src/stages.rt:117:16
 add-board-3 : tie.Need-add-board-3
 add-board-3 c =
     let b = c .before .before .before .before .before .before .before .before .before .before .before in
     omega (arith, nine (b .args .v) (b .args .i) (b .args .d) (now (b .args .board)) (b .pre .eight), b .pre .board .room .room 9, c .power .ensures .1)
 
--- src/stages.rt:117:5
 slice-write-board-3 : tie.Need-slice-write-board-3
 slice-write-board-3 c =
     let b = c .before .before .before .before .before .before .before .before .before .before .before in
     let l = now (b .args .board) in
     omega (arith, b .pre .board .size, length-set l (1 + b .args .v) (getD l (1 + b .args .v) 0 + b .args .d), length-set (set l (1 + b .args .v) (getD l (1 + b .args .v) 0 + b .args .d)) (10 + b .args .i) (getD l (10 + b .args .i) 0 + b .args .d))
 
--- src/stages.rt:102:1
 same-length-3 : tie.Need-same-length-3
 same-length-3 c = search needs
 
--- src/stages.rt:102:1
 returns-3 : tie.Need-returns-3
 returns-3 c =
     let b = c .before .before .before .before .before .before .before .before .before .before .before in

@@ -1,72 +1,51 @@
+-- `grants::stages::storage_ask` meets its contract. Assumes nothing.
 use Rattle.general.specs.Sums.{only}
 use Rattle.rules.specs.Turn.{bit}
 use Rattle.records.specs.declared.reservoirs.ReservoirRecord.{ReservoirRecord}
 use Rattle.grants.specs.Stages.{capacityIn}
-use Prim.Native.Nat.{ℕ, zero, suc, _+_, _-_, _*_, _/_, _%_, _≤_, _<_, min}
-use mathlib.Core.Path.{_≡_, refl, sym, ap, _∙_, subst}
-use mathlib.Core.List.{List, [], _∷_, _++_}
-use mathlib.Core.Bool.{Bool, true, false, not, cond}
+use Prim.Native.Nat.{ℕ, _+_, _-_, _≤_, min}
+use mathlib.Core.Path.{ap, _∙_}
+use mathlib.Core.Bool.{Bool, not}
 use native.Mathlib.Omega.{arith}
 use borrow.Author.Needs.{needs}
-use borrow.Author.Tests.{lt-ltb, le-ltb, eq-eqb, ne-eqb, le-leb, lt-leb, not-true, not-false}
-use lib.ListN.{length, getD, set, drop, length-set}
+use lib.ListN.{getD}
 use denote.Ref.{now}
 use Rattle.grants.proofs.stages.storage_ask.Statement.{statement}
 use Rattle.grants.proofs.stages.storage_ask.Tie as tie
-use Rattle.grants.proofs.stages.storage_ask.Reads as reads
-use Rattle.grants.proofs.stages.storage_ask.Lts as lts
-use Rattle.layout.proofs.bytes.index.Reads as index-reads
-use Rattle.records.proofs.reservoirs.reservoir_at.Reads as reservoir-at-reads
-use Rattle.returns.proofs.numbers.bit_of.Reads as bit-of-reads
-use Rattle.returns.proofs.numbers.wide32.Reads as wide32-reads
-use Rattle.returns.proofs.numbers.wide_size.Reads as wide-size-reads
-use Rattle.grants.proofs.stages.storage_demand.Reads as storage-demand-reads
 
--- src/stages.rt:55:9
 index-requires : tie.Need-index-requires
 index-requires c κs = search needs
 
--- src/stages.rt:56:9
 reservoir-at-requires : tie.Need-reservoir-at-requires
 reservoir-at-requires c κs = search needs
 
--- src/stages.rt:57:22
 wide32-requires : tie.Need-wide32-requires
 wide32-requires c κs = search needs
 
--- src/stages.rt:57:50
 add-limit-left : tie.Need-add-limit-left
 add-limit-left c = search needs
 
--- src/stages.rt:57:44
 mul-limit-left : tie.Need-mul-limit-left
 mul-limit-left c = search needs
 
--- src/stages.rt:57:44
 shared-slice-read-limit-left : tie.Need-shared-slice-read-limit-left
 shared-slice-read-limit-left c = search needs
 
--- src/stages.rt:57:22
 sub-limit-left : tie.Need-sub-limit-left
 sub-limit-left c = search needs
 
--- src/stages.rt:58:25
 wide32-requires-2 : tie.Need-wide32-requires-2
 wide32-requires-2 c κs = search needs
 
--- src/stages.rt:58:55
 add-capacity-left : tie.Need-add-capacity-left
 add-capacity-left c = search needs
 
--- src/stages.rt:58:49
 mul-capacity-left : tie.Need-mul-capacity-left
 mul-capacity-left c = search needs
 
--- src/stages.rt:58:49
 shared-slice-read-capacity-left : tie.Need-shared-slice-read-capacity-left
 shared-slice-read-capacity-left c = search needs
 
--- src/stages.rt:58:25
 sub-capacity-left : tie.Need-sub-capacity-left
 sub-capacity-left c =
     let b = c .before .before .before .before .before .before .before .before in
@@ -76,23 +55,18 @@ sub-capacity-left c =
     let f : getD (now (b .args .board)) (1 + c .before .before .before .before .before .index .result) 0 ≤ capacityIn (now (b .args .reservoirs)) (c .before .before .before .before .before .index .result) = rw i h in
     omega (arith, e)
 
--- src/stages.rt:59:25
 shared-slice-read-bit-of : tie.Need-shared-slice-read-bit-of
 shared-slice-read-bit-of c = search needs
 
--- src/stages.rt:59:35
 wide-size-requires : tie.Need-wide-size-requires
 wide-size-requires c κs = search needs
 
--- src/stages.rt:59:9
 bit-of-requires : tie.Need-bit-of-requires
 bit-of-requires c κs = search needs
 
--- src/stages.rt:60:5
 storage-demand-requires : tie.Need-storage-demand-requires
 storage-demand-requires c κs = search needs
 
--- src/stages.rt:51:1
 returns : tie.Need-returns
 returns c =
     let b = c .before .before .before .before .before .before .before .before .before .before .before .before in

@@ -1,6 +1,6 @@
 -- `layout::contents::layout_ok` meets its contract. Assumes nothing.
 use mathlib.Core.Bool.{Bool}
-use mathlib.Core.Path.{_≡_, sym, ap, _∙_}
+use mathlib.Core.Path.{sym, ap, _∙_}
 use borrow.Author.Needs.{needs}
 use denote.Ref.{now}
 use Rattle.general.specs.Tests.{_and_}

@@ -2,27 +2,19 @@
 use borrow.Author.Needs.{needs}
 use Rattle.ledger.proofs.export.river_fresh.Statement.{statement}
 use Rattle.ledger.proofs.export.river_fresh.Tie as tie
-use Rattle.ledger.proofs.export.river_fresh.Reads as reads
-use Rattle.ledger.proofs.export.river_fresh.Lts as lts
-use Rattle.ledger.proofs.export.word.Reads as word-reads
-use Rattle.calls.proofs.fresh.fresh.Reads as fresh-reads
 use mathlib.Core.Path.{ap, _∙_}
 use Rattle.calls.specs.Answers.{answerWord}
 use Rattle.boards.specs.Calls.{Fresh}
 
--- src/export.rt:22:10
 fresh-requires : tie.Need-fresh-requires
 fresh-requires c κs = search needs
 
--- src/export.rt:22:5
 word-requires : tie.Need-word-requires
 word-requires c κs = search needs
 
--- src/export.rt:18:1
 same-length : tie.Need-same-length
 same-length c = search needs
 
--- src/export.rt:18:1
 returns : tie.Need-returns
 returns c = let e = c .before .before .before .fresh .ensures in (c .word .ensures ∙ ap (λ (x : Fresh). answerWord (x .answer)) e, ap (λ (x : Fresh). x .board) e)
 

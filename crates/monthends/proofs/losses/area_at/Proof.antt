@@ -1,39 +1,27 @@
-use mathlib.Core.Path.{_≡_, refl, sym, ap, _∙_, subst}
+-- `monthends::losses::area_at` meets its contract. Assumes nothing.
+use mathlib.Core.Path.{ap, _∙_}
 use denote.Ref.{now}
 use Rattle.general.specs.Tables.{tab}
 use Rattle.rules.specs.Month.{areaFrom, areaAt}
 use Rattle.records.specs.Records.{reservoirOf}
 use Rattle.monthends.specs.Losses.{areaBy}
-use Prim.Native.Nat.{ℕ, zero, suc, _+_, _-_, _*_, _/_, _%_, _≤_, _<_, min}
-use mathlib.Core.List.{List, [], _∷_, _++_}
-use mathlib.Core.Bool.{Bool, true, false, not, cond}
-use native.Mathlib.Omega.{arith}
+use Prim.Native.Nat.{_-_}
 use borrow.Author.Needs.{needs}
-use borrow.Author.Tests.{lt-ltb, le-ltb, eq-eqb, ne-eqb, le-leb, lt-leb, not-true, not-false}
-use lib.ListN.{length, getD, set, drop, length-set}
 use Rattle.monthends.proofs.losses.area_at.Statement.{statement}
 use Rattle.monthends.proofs.losses.area_at.Tie as tie
-use Rattle.monthends.proofs.losses.area_at.Reads as reads
-use Rattle.monthends.proofs.losses.area_at.Lts as lts
-use Rattle.monthends.proofs.losses.area_by.Reads as area-by-reads
 
--- src/losses.rt:27:9
 area-by-requires : tie.Need-area-by-requires
 area-by-requires c κs = search needs
 
--- src/losses.rt:28:9
 area-by-requires-2 : tie.Need-area-by-requires-2
 area-by-requires-2 c κs = search needs
 
--- src/losses.rt:29:9
 area-by-requires-3 : tie.Need-area-by-requires-3
 area-by-requires-3 c κs = search needs
 
--- src/losses.rt:30:5
 area-by-requires-4 : tie.Need-area-by-requires-4
 area-by-requires-4 c κs = search needs
 
--- src/losses.rt:23:1
 returns : tie.Need-returns
 unfolding areaAt areaFrom reservoirOf tab
 returns c =

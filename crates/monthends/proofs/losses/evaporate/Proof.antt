@@ -1,19 +1,13 @@
-use mathlib.Core.Path.{_≡_, refl, sym, ap, _∙_, subst}
+-- `monthends::losses::evaporate` meets its contract. Assumes nothing.
+use mathlib.Core.Path.{subst}
 use native.Mathlib.Omega.{arith}
 use borrow.Author.Needs.{needs}
-use Prim.Native.Nat.{ℕ, _<_, _≤_, _*_, _+_, _-_, zero, suc, _/_, _%_, min}
-use lib.ListN.{length, getD, set, length-set, drop}
+use Prim.Native.Nat.{ℕ, _≤_, _-_}
 use denote.Ref.{now}
 use Rattle.monthends.specs.Losses.{Lost}
 use Rattle.monthends.proofs.Evaporating.{lost-none, lost-more}
-use mathlib.Core.List.{List, [], _∷_, _++_}
-use mathlib.Core.Bool.{Bool, true, false, not, cond}
-use borrow.Author.Tests.{lt-ltb, le-ltb, eq-eqb, ne-eqb, le-leb, lt-leb, not-true, not-false}
 use Rattle.monthends.proofs.losses.evaporate.Statement.{statement}
 use Rattle.monthends.proofs.losses.evaporate.Tie as tie
-use Rattle.monthends.proofs.losses.evaporate.Reads as reads
-use Rattle.monthends.proofs.losses.evaporate.Lts as lts
-use Rattle.monthends.proofs.losses.loss.Reads as loss-reads
 
 abbrev Inv-loop : tie.InvT-loop
 Inv-loop reservoirs m board₀ report₀ at n v₀ board report v = (v ≤ n) × Lost reservoirs m v board₀ report₀ at board report
@@ -21,80 +15,62 @@ Inv-loop reservoirs m board₀ report₀ at n v₀ board report v = (v ≤ n) ×
 abbrev μ-loop : tie.MeasureT-loop
 μ-loop reservoirs m board₀ report₀ at n v₀ board report v = n - v
 
--- src/losses.rt:55:5
 loop-holds : tie.Need-loop-holds Inv-loop μ-loop
 loop-holds c =
     let s = c .before .before .before .args in
     (omega arith, lost-none (now (s .reservoirs)) (s .m) (now (s .board)) (now (s .report)) (s .at) (c .before .before .before .pre))
 
--- src/losses.rt:56:26
 add-held : tie.Need-add-held Inv-loop μ-loop
 add-held c = omega (arith, c .before .before .before .before .before .pre .few)
 
--- src/losses.rt:56:20
 mul-held : tie.Need-mul-held Inv-loop μ-loop
 mul-held c = search needs
 
--- src/losses.rt:56:20
 slice-read-held : tie.Need-slice-read-held Inv-loop μ-loop
 slice-read-held c = omega (arith, c .before .before .before .before .before .before .pre .few, c .before .before .before .before .before .before .pre .size, c .before .before .loop .inv .1 .size)
 
--- src/losses.rt:57:13
 loss-requires : tie.Need-loss-requires Inv-loop μ-loop
 loss-requires c κs = (omega arith, c .before .before .before .before .before .before .pre .in-year)
 
--- src/losses.rt:58:24
 sub-board : tie.Need-sub-board Inv-loop μ-loop
 sub-board c = omega (arith, c .loss .ensures .1)
 
--- src/losses.rt:58:15
 add-board : tie.Need-add-board Inv-loop μ-loop
 add-board c = omega (arith, c .before .before .before .before .before .before .before .pre .few)
 
--- src/losses.rt:58:9
 mul-board : tie.Need-mul-board Inv-loop μ-loop
 mul-board c = search needs
 
--- src/losses.rt:58:9
 slice-write-board : tie.Need-slice-write-board Inv-loop μ-loop
 slice-write-board c = omega (arith, c .before .before .before .before .before .before .before .pre .few, c .before .before .before .before .before .before .before .pre .size, c .before .before .before .loop .inv .1 .size)
 
--- src/losses.rt:59:16
 add-report : tie.Need-add-report Inv-loop μ-loop
 add-report c = omega (arith, c .before .before .before .before .before .before .before .pre .places, c .before .before .before .loop .inv .1 .report-size)
 
--- src/losses.rt:59:9
 mul-report : tie.Need-mul-report Inv-loop μ-loop
 mul-report c = search needs
 
--- src/losses.rt:59:9
 slice-write-report : tie.Need-slice-write-report Inv-loop μ-loop
 slice-write-report c = omega (arith, c .before .before .before .before .before .before .before .pre .places, c .before .before .before .loop .inv .1 .report-size)
 
--- src/losses.rt:55:9
 add-v : tie.Need-add-v Inv-loop μ-loop
 add-v c = omega (arith, c .before .before .before .before .before .before .before .pre .few)
 
--- src/losses.rt:55:5
 loop-less : tie.Need-loop-less Inv-loop μ-loop
 loop-less c = search needs
 
--- src/losses.rt:55:5
 loop-again : tie.Need-loop-again Inv-loop μ-loop
 loop-again c =
     let s = c .before .before .before .before .before .before .before .args in
     let l = c .before .before .before .loop in
     (omega arith, lost-more (now (s .reservoirs)) (s .m) (now (s .board)) (now (s .report)) (s .at) (c .before .before .before .before .before .before .before .pre) (l .v) (omega arith) (l .board) (l .report) (l .inv .1) (c .loss .result) (c .loss .ensures .0))
 
--- src/losses.rt:44:1
 same-length : tie.Need-same-length Inv-loop μ-loop
 same-length c = c .before .loop .inv .1 .size
 
--- src/losses.rt:44:1
 same-length-2 : tie.Need-same-length-2 Inv-loop μ-loop
 same-length-2 c = c .before .loop .inv .1 .report-size
 
--- src/losses.rt:44:1
 returns : tie.Need-returns Inv-loop μ-loop
 returns c =
     let s = c .before .before .before .before .before .args in

@@ -1,49 +1,34 @@
-use mathlib.Core.Path.{_≡_, refl, sym, ap, _∙_, subst}
+-- `monthends::losses::loss` meets its contract. Assumes nothing.
+use mathlib.Core.Path.{sym, ap, _∙_}
 use native.Mathlib.Omega.{arith}
 use native.Mathlib.Nat.{mul-le-mul}
-use Prim.Native.Nat.{ℕ, _≤_, _*_, min, zero, suc, _+_, _-_, _/_, _%_, _<_}
-use lib.ListN.{getD, length, set, drop, length-set}
+use Prim.Native.Nat.{ℕ, _≤_, _*_, min, _-_}
 use denote.Ref.{now}
 use Rattle.general.proofs.Tables.{tab-at}
 use Rattle.rules.specs.Month.{areaAt, evaporation}
 use Rattle.records.specs.Records.{depthAt, reservoirOf}
-use mathlib.Core.List.{List, [], _∷_, _++_}
-use mathlib.Core.Bool.{Bool, true, false, not, cond}
 use borrow.Author.Needs.{needs}
-use borrow.Author.Tests.{lt-ltb, le-ltb, eq-eqb, ne-eqb, le-leb, lt-leb, not-true, not-false}
 use Rattle.monthends.proofs.losses.loss.Statement.{statement}
 use Rattle.monthends.proofs.losses.loss.Tie as tie
-use Rattle.monthends.proofs.losses.loss.Reads as reads
-use Rattle.monthends.proofs.losses.loss.Lts as lts
-use Rattle.records.proofs.reservoirs.depth_at.Reads as depth-at-reads
-use Rattle.monthends.proofs.losses.area_at.Reads as area-at-reads
-use Rattle.returns.proofs.numbers.lesser.Reads as lesser-reads
-use Rattle.returns.proofs.numbers.wide16.Reads as wide16-reads
 
--- src/losses.rt:38:9
 area-at-requires : tie.Need-area-at-requires
 area-at-requires c κs = search needs
 
--- src/losses.rt:39:24
 depth-at-requires : tie.Need-depth-at-requires
 depth-at-requires c κs = search needs
 
--- src/losses.rt:39:9
 wide16-requires : tie.Need-wide16-requires
 wide16-requires c κs = search needs
 
--- src/losses.rt:40:21
 mul-lesser : tie.Need-mul-lesser
 mul-lesser c =
     let x : c .before .before .area-at .result ≤ 4294967295 = omega (arith, c .before .before .area-at .ensures .1) in
     let y : c .wide16 .result ≤ 65535 = omega (arith, c .wide16 .ensures .1) in
     omega (arith, mul-le-mul x y)
 
--- src/losses.rt:40:5
 lesser-requires : tie.Need-lesser-requires
 lesser-requires c κs = search needs
 
--- src/losses.rt:34:1
 returns : tie.Need-returns
 unfolding evaporation reservoirOf
 returns c =

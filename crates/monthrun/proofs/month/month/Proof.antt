@@ -1,63 +1,47 @@
+-- `monthrun::month::month` meets its contract. Assumes nothing.
 use borrow.Author.Needs.{needs}
 use Rattle.monthrun.proofs.month.month.Statement.{statement}
 use Rattle.monthrun.proofs.month.month.Tie as tie
-use Rattle.monthrun.proofs.month.month.Reads as reads
-use Rattle.monthrun.proofs.month.month.Lts as lts
-use Rattle.layout.proofs.contents.section.Reads as section-reads
-use Rattle.monthrun.proofs.month.go_on.Reads as go-on-reads
-use Rattle.steps.proofs.settle.on_lent.Reads as on-lent-reads
 use native.Mathlib.Omega.{arith}
 use denote.Ref.{now}
 use Rattle.steps.proofs.Settling.{lent-clear, month-refused, can-go-at, month-went}
 
--- src/month.rt:174:9
 on-lent-requires : tie.Need-on-lent-requires
 on-lent-requires c κs = search needs
 
--- src/month.rt:176:9
 same-length : tie.Need-same-length
 same-length c = search needs
 
--- src/month.rt:176:9
 same-length-2 : tie.Need-same-length-2
 same-length-2 c = search needs
 
--- src/month.rt:176:9
 returns : tie.Need-returns
 returns c = let s = c .before .before .before .before .before .before .before .before .before .args in month-refused (now (s .file)) (now (s .runoff)) (now (s .board)) (now (s .report)) _ (c .before .before .on-lent .ensures) (c .if1 .taken)
 
--- src/month.rt:178:9
 section-requires : tie.Need-section-requires
 section-requires c κs = search needs
 
--- src/month.rt:179:9
 section-requires-2 : tie.Need-section-requires-2
 section-requires-2 c κs = search needs
 
--- src/month.rt:180:9
 section-requires-3 : tie.Need-section-requires-3
 section-requires-3 c κs = search needs
 
--- src/month.rt:181:9
 section-requires-4 : tie.Need-section-requires-4
 section-requires-4 c κs = search needs
 
--- src/month.rt:182:5
 go-on-requires : tie.Need-go-on-requires
 go-on-requires c κs =
     let s = c .before .before .before .before .before .before .before .before .before .before .before .before .before .before .before .args in
     let k = lent-clear (now (s .file)) (now (s .runoff)) (now (s .board)) (now (s .report)) _ (c .before .before .before .before .before .before .before .before .on-lent .ensures) (omega arith) in
     can-go-at (now (s .file)) (now (s .runoff)) (now (s .board)) (now (s .report)) k (c .before .before .before .before .before .section .ensures) (c .before .before .before .before .section2 .ensures) (c .before .before .before .section3 .ensures) (c .before .before .section4 .ensures)
 
--- src/month.rt:171:1
 same-length-3 : tie.Need-same-length-3
 same-length-3 c = search needs
 
--- src/month.rt:171:1
 same-length-4 : tie.Need-same-length-4
 same-length-4 c = search needs
 
--- src/month.rt:171:1
 returns-2 : tie.Need-returns-2
 returns-2 c =
     let s = c .before .before .before .before .before .before .before .before .before .before .before .before .before .before .before .before .before .before .before .before .args in

@@ -1,18 +1,11 @@
+-- `monthrun::month::run` meets its contract. Assumes nothing.
 use borrow.Author.Needs.{needs}
 use Rattle.monthrun.proofs.month.run.Statement.{statement}
 use Rattle.monthrun.proofs.month.run.Tie as tie
-use Rattle.monthrun.proofs.month.run.Reads as reads
-use Rattle.monthrun.proofs.month.run.Lts as lts
-use Rattle.records.proofs.network.rows_below.Reads as rows-below-reads
-use Rattle.records.proofs.patterns.decode_patterns.Reads as decode-patterns-reads
-use Rattle.steps.proofs.month.begin.Reads as begin-reads
-use Rattle.steps.proofs.month.end.Reads as end-reads
-use Rattle.steps.proofs.month.in_year.Reads as in-year-reads
-use Rattle.turns.proofs.lines.serve_all.Reads as serve-all-reads
-use mathlib.Core.Path.{_≡_, refl, sym, ap, _∙_, subst}
-use Prim.Native.Nat.{ℕ, _+_, _-_, _*_, _≤_, _<_}
+use mathlib.Core.Path.{refl, ap}
+use Prim.Native.Nat.{ℕ, _-_}
 use native.Mathlib.Omega.{arith}
-use lib.ListN.{length, getD, set}
+use lib.ListN.{getD}
 use mathlib.Core.List.{List}
 use denote.Ref.{now}
 use Rattle.general.proofs.Lists.{getD-zeros}
@@ -21,29 +14,24 @@ use Rattle.monthrun.proofs.Opened.{falses, opened-month}
 use Rattle.boards.proofs.Bounds.{month-most}
 use Rattle.monthrun.proofs.Running.{run-rows, run-patterns, run-rights, setting, can-gather, can-serve, can-end, ran}
 
--- src/month.rt:110:17
 rows-below-requires : tie.Need-rows-below-requires
 rows-below-requires c κs =
     let s = c .before .before .before .before .before .before .before .args in
     run-rows (now (s .stations)) (now (s .reservoirs)) (now (s .patterns)) (now (s .rights)) (now (s .runoff)) (now (s .board)) (now (s .report)) (c .before .before .before .before .before .before .before .pre)
 
--- src/month.rt:111:9
 decode-patterns-requires : tie.Need-decode-patterns-requires
 decode-patterns-requires c κs =
     let s = c .before .before .before .before .before .before .before .before .args in
     run-patterns (now (s .stations)) (now (s .reservoirs)) (now (s .patterns)) (now (s .rights)) (now (s .runoff)) (now (s .board)) (now (s .report)) (c .before .before .before .before .before .before .before .before .pre)
 
--- src/month.rt:115:5
 begin-requires : tie.Need-begin-requires
 begin-requires c κs =
     let s = c .before .before .before .before .before .before .before .before .before .before .before .before .before .args in
     can-gather (now (s .stations)) (now (s .reservoirs)) (now (s .patterns)) (now (s .rights)) (now (s .runoff)) (now (s .board)) (now (s .report)) (c .before .before .before .before .before .before .before .before .before .before .before .before .before .pre) _ (c .before .before .before .before .before .rows-below .ensures) _ (c .before .before .before .before .decode-patterns .ensures) _ _ (omega arith) (omega arith) (getD-zeros 64) (getD-zeros 64)
 
--- src/month.rt:116:21
 slice-read-in-year : tie.Need-slice-read-in-year
 slice-read-in-year c = omega (arith, c .before .before .before .before .before .before .before .before .before .before .before .before .before .before .before .before .before .pre .size)
 
--- src/month.rt:116:9
 in-year-requires : tie.Need-in-year-requires
 in-year-requires c κs =
     let s = c .before .before .before .before .before .before .before .before .before .before .before .before .before .before .before .before .before .args in
@@ -51,20 +39,17 @@ in-year-requires c κs =
     let b = bodies (now (s .stations)) (now (s .reservoirs)) (now (s .patterns)) (now (s .rights)) in
     omega (arith, ap (λ (x : List ℕ). getD x 0 0) (c .before .before .before .begin .ensures .1), opened-month (now (s .board)), month-most b (now (s .board)) (p .can))
 
--- src/month.rt:117:9
 serve-all-requires : tie.Need-serve-all-requires
 serve-all-requires c κs =
     let s = c .before .before .before .before .before .before .before .before .before .before .before .before .before .before .before .before .before .before .before .before .before .before .before .before .args in
     can-serve (now (s .stations)) (now (s .reservoirs)) (now (s .patterns)) (now (s .rights)) (now (s .runoff)) (now (s .board)) (now (s .report)) (c .before .before .before .before .before .before .before .before .before .before .before .before .before .before .before .before .before .before .before .before .before .before .before .before .pre) _ (c .before .before .before .before .before .before .before .before .before .before .before .before .before .before .before .before .rows-below .ensures) _ (c .before .before .before .before .before .before .before .before .before .before .before .before .before .before .before .decode-patterns .ensures) _ _ (c .before .before .before .before .before .before .before .before .before .before .begin .ensures .0) _ _ (c .before .before .before .before .before .before .before .before .before .before .begin .ensures .1) (falses 64) (omega arith) _ (c .before .before .before .before .before .before .in-year .ensures)
 
--- src/month.rt:131:24
 mul-end : tie.Need-mul-end
 mul-end c =
     let s = c .before .before .before .before .before .before .before .before .before .before .before .before .before .before .before .before .before .before .before .before .before .before .before .before .before .before .before .before .before .args in
     let h = run-rights (now (s .stations)) (now (s .reservoirs)) (now (s .patterns)) (now (s .rights)) (now (s .runoff)) (now (s .board)) (now (s .report)) (c .before .before .before .before .before .before .before .before .before .before .before .before .before .before .before .before .before .before .before .before .before .before .before .before .before .before .before .before .before .pre) in
     omega (arith, h)
 
--- src/month.rt:131:5
 end-requires : tie.Need-end-requires
 end-requires c κs =
     let s = c .before .before .before .before .before .before .before .before .before .before .before .before .before .before .before .before .before .before .before .before .before .before .before .before .before .before .before .before .before .before .before .before .before .args in
@@ -72,15 +57,12 @@ end-requires c κs =
     let b = bodies (now (s .stations)) (now (s .reservoirs)) (now (s .patterns)) (now (s .rights)) in
     can-end (now (s .stations)) (now (s .reservoirs)) (now (s .patterns)) (now (s .rights)) (now (s .runoff)) (now (s .board)) (now (s .report)) (c .before .before .before .before .before .before .before .before .before .before .before .before .before .before .before .before .before .before .before .before .before .before .before .before .before .before .before .before .before .before .before .before .before .pre) _ (c .before .before .before .before .before .before .before .before .before .before .before .before .before .before .before .before .before .before .before .before .before .before .before .before .before .rows-below .ensures) _ (c .before .before .before .before .before .before .before .before .before .before .before .before .before .before .before .before .before .before .before .before .before .before .before .before .decode-patterns .ensures) _ _ (c .before .before .before .before .before .before .before .before .before .before .before .before .before .before .before .before .before .before .before .begin .ensures .0) _ _ (c .before .before .before .before .before .before .before .before .before .before .before .before .before .before .before .before .before .before .before .begin .ensures .1) (falses 64) (omega arith) _ (c .before .before .before .before .before .before .before .before .before .before .before .before .before .before .before .in-year .ensures) _ _ _ _ _ _ (c .before .before .before .before .before .before .before .before .serve-all .ensures b w) _ _ refl refl
 
--- src/month.rt:98:1
 same-length : tie.Need-same-length
 same-length c = search needs
 
--- src/month.rt:98:1
 same-length-2 : tie.Need-same-length-2
 same-length-2 c = search needs
 
--- src/month.rt:98:1
 returns : tie.Need-returns
 returns c =
     let s = c .before .before .before .before .before .before .before .before .before .before .before .before .before .before .before .before .before .before .before .before .before .before .before .before .before .before .before .before .before .before .before .before .before .before .before .before .before .before .args in

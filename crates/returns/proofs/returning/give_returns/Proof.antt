@@ -1,3 +1,4 @@
+-- `returns::returning::give_returns` meets its contract. Assumes nothing.
 use Prim.Native.Nat.{ℕ, _+_, _-_, _*_, _/_, _≤_, _<_}
 use mathlib.Core.Path.{_≡_, refl, ap, _∙_, subst}
 use mathlib.Core.List.{[]}
@@ -18,23 +19,19 @@ Inv-loop below patterns rights i points which rest flow₀ available₀ board₀
 abbrev μ-loop : tie.MeasureT-loop
 μ-loop below patterns rights i points which rest flow₀ available₀ board₀ c₀ before₀ k₀ flow available board c before k = points - k
 
--- src/returning.rt:44:5
 loop-holds : tie.Need-loop-holds Inv-loop μ-loop
 loop-holds c =
     let b = c .before .before in
     (omega arith, points-none (now (b .args .rights)) (b .args .i), omega arith, gave-none (now (b .args .below)) (getD (b .args .patterns) (b .args .which) []) (now (b .args .rights)) (b .args .i) (b .args .rest) (now (b .args .flow)) (now (b .args .available)) (now (b .args .board)) (b .pre .river .within))
 
--- src/returning.rt:45:23
 return-percent-requires : tie.Need-return-percent-requires Inv-loop μ-loop
 return-percent-requires c κs =
     let b = c .before .before .before .before in
     (b .pre .points-ok .right-in, omega (arith, b .pre .points-ok .few))
 
--- src/returning.rt:45:13
 wide8-requires : tie.Need-wide8-requires Inv-loop μ-loop
 wide8-requires c κs = search needs
 
--- src/returning.rt:46:28
 add-next : tie.Need-add-next Inv-loop μ-loop
 add-next c =
     let b = c .before .before .before .before .before .before in
@@ -42,7 +39,6 @@ add-next c =
     let ri = now (b .args .rights) in
     omega (arith, l .inv .1, c .wide8 .ensures .1, points-le ri (b .args .i) (l .k) (b .args .points) (l .inv .0), b .pre .points-ok .percents)
 
--- src/returning.rt:46:20
 mul-next : tie.Need-mul-next Inv-loop μ-loop
 mul-next c =
     let b = c .before .before .before .before .before .before in
@@ -54,23 +50,19 @@ mul-next c =
     let s : l .c + c .wide8 .result ≤ 100 = omega (arith, l .inv .1, c .wide8 .ensures .0, c .before .return-percent .ensures, b .pre .points-ok .percents) in
     omega (arith, mul-le-mul (b .pre .small) s)
 
--- src/returning.rt:47:25
 return-row-requires : tie.Need-return-row-requires Inv-loop μ-loop
 return-row-requires c κs =
     let b = c .before .before .before .before .before .before in
     (b .pre .points-ok .right-in, omega (arith, b .pre .points-ok .few))
 
--- src/returning.rt:47:13
 index-requires : tie.Need-index-requires Inv-loop μ-loop
 index-requires c κs = search needs
 
--- src/returning.rt:48:46
 sub-split : tie.Need-sub-split Inv-loop μ-loop
 sub-split c =
     let l = c .before .before .before .before .before .loop in
     omega (arith, l .inv .2)
 
--- src/returning.rt:48:13
 split-requires : tie.Need-split-requires Inv-loop μ-loop
 split-requires c κs =
     let b = c .before .before .before .before .before .before .before .before .before in
@@ -91,7 +83,6 @@ split-requires c κs =
       },
     )
 
--- src/returning.rt:49:9
 give-share-requires : tie.Need-give-share-requires Inv-loop μ-loop
 give-share-requires c κs =
     let b = c .before .before .before .before .before .before .before .before .before .before .before .before .before .before in
@@ -108,22 +99,18 @@ give-share-requires c κs =
     (omega (arith, c .before .before .before .before .before .before .index .ensures .0, c .before .before .before .before .before .before .before .return-row .ensures, b .pre .points-ok .rows (l .k) (omega arith)))
     (omega (arith, c .before .before .before .before .split .ensures .1, mul-le-mul (b .pre .small) s))
 
--- src/returning.rt:51:9
 add-c : tie.Need-add-c Inv-loop μ-loop
 add-c c =
     let b = c .before .before .before .before .before .before .before .before .before .before .before .before .before .before .before in
     let l = c .before .before .before .before .before .before .before .before .before .before .before .before .loop in
     omega (arith, l .inv .1, c .before .before .before .before .before .before .before .before .before .wide8 .ensures .1, points-le (now (b .args .rights)) (b .args .i) (l .k) (b .args .points) (l .inv .0), b .pre .points-ok .percents)
 
--- src/returning.rt:44:9
 add-k : tie.Need-add-k Inv-loop μ-loop
 add-k c = search needs
 
--- src/returning.rt:44:5
 loop-less : tie.Need-loop-less Inv-loop μ-loop
 loop-less c = search needs
 
--- src/returning.rt:44:5
 loop-again : tie.Need-loop-again Inv-loop μ-loop
 loop-again c =
     let b = c .before .before .before .before .before .before .before .before .before .before .before .before .before .before .before in
@@ -153,11 +140,9 @@ loop-again c =
           (c .before .before .before .before .before .split .ensures .0) (c .before .before .before .before .before .split .ensures .2) (c .give-share .ensures),
     )
 
--- src/returning.rt:27:1
 same-length : tie.Need-same-length Inv-loop μ-loop
 same-length c = c .before .loop .inv .3 .size
 
--- src/returning.rt:27:1
 returns : tie.Need-returns Inv-loop μ-loop
 returns c =
     let b = c .before .before .before .before in

@@ -1,3 +1,4 @@
+-- `returns::returning::give_share` meets its contract. Assumes nothing.
 use borrow.Author.Needs.{needs}
 use denote.Ref.{now}
 use Rattle.returns.proofs.returning.give_share.Statement.{statement}
@@ -5,17 +6,14 @@ use Rattle.returns.proofs.returning.give_share.Tie as tie
 use Rattle.records.specs.Table.{pathBy}
 use Rattle.returns.proofs.Points.{put-nothing}
 
--- src/returning.rt:21:9
 returns : tie.Need-returns
 returns c =
     let b = c .before in
     put-nothing (now (b .args .flow)) (now (b .args .available)) (pathBy (now (b .args .below)) (b .args .row)) (b .args .share) (c .if1 .taken)
 
--- src/returning.rt:23:5
 put-back-requires : tie.Need-put-back-requires
 put-back-requires c κs = search needs
 
--- src/returning.rt:16:1
 returns-2 : tie.Need-returns-2
 returns-2 c = search needs
 

@@ -1,23 +1,18 @@
+-- `returns::split::split_months` meets its contract. Assumes nothing.
 use native.Mathlib.Nat.{mul-le-mul}
-use Rattle.general.specs.Sums.{sum, sumTo}
+use Rattle.general.specs.Sums.{sumTo}
 use Rattle.rules.specs.Returns.{shares}
 use Rattle.returns.specs.Dues.{Lagged}
 use Rattle.returns.proofs.Shares.{upTo, first-share, share-le, upTo-more, upTo-le, lagged-none, lagged-more, lagged-le}
-use Prim.Native.Nat.{ℕ, zero, suc, _+_, _-_, _*_, _/_, _%_, _≤_, _<_, min}
+use Prim.Native.Nat.{ℕ, suc, _+_, _-_, _*_, _/_, _≤_}
 use mathlib.Core.Path.{_≡_, refl, sym, ap, _∙_, subst}
-use mathlib.Core.List.{List, [], _∷_, _++_}
-use mathlib.Core.Bool.{Bool, true, false, not, cond}
+use mathlib.Core.List.{List}
 use native.Mathlib.Omega.{arith}
 use borrow.Author.Needs.{needs}
-use borrow.Author.Tests.{lt-ltb, le-ltb, eq-eqb, ne-eqb, le-leb, lt-leb, not-true, not-false}
-use lib.ListN.{length, getD, set, drop, length-set}
+use lib.ListN.{getD}
 use denote.Ref.{now}
 use Rattle.returns.proofs.split.split_months.Statement.{statement}
 use Rattle.returns.proofs.split.split_months.Tie as tie
-use Rattle.returns.proofs.split.split_months.Reads as reads
-use Rattle.returns.proofs.split.split_months.Lts as lts
-use Rattle.returns.proofs.numbers.wide8.Reads as wide8-reads
-use Rattle.returns.proofs.split.add_share.Reads as add-share-reads
 
 abbrev Inv-loop : tie.InvT-loop
 Inv-loop a at dues₀ pattern c₀ at-once before₀ k₀ dues c before k = (k ≤ 11) × (c ≡ upTo pattern (k + 1)) × (before ≡ a * c / 100) × Lagged pattern a at k dues₀ dues
@@ -25,44 +20,35 @@ Inv-loop a at dues₀ pattern c₀ at-once before₀ k₀ dues c before k = (k �
 abbrev μ-loop : tie.MeasureT-loop
 μ-loop a at dues₀ pattern c₀ at-once before₀ k₀ dues c before k = 11 - k
 
--- src/split.rt:28:23
 array-read-wide8 : tie.Need-array-read-wide8 Inv-loop μ-loop
 array-read-wide8 c = search needs
 
--- src/split.rt:28:9
 wide8-requires : tie.Need-wide8-requires Inv-loop μ-loop
 wide8-requires c κs = search needs
 
--- src/split.rt:29:19
 mul-at-once : tie.Need-mul-at-once Inv-loop μ-loop
 mul-at-once c =
     let b = c .before .before in
     omega (arith, mul-le-mul (b .pre .small) (c .wide8 .ensures .1))
 
--- src/split.rt:31:5
 loop-holds : tie.Need-loop-holds Inv-loop μ-loop
 unfolding sumTo
 loop-holds c =
     let b = c .before .before in
     (omega arith, omega (arith, c .wide8 .ensures .0), refl, lagged-none _ _ _ _)
 
--- src/split.rt:32:31
 add-wide8 : tie.Need-add-wide8 Inv-loop μ-loop
 add-wide8 c = search needs
 
--- src/split.rt:32:23
 array-read-wide8-2 : tie.Need-array-read-wide8-2 Inv-loop μ-loop
 array-read-wide8-2 c = search needs
 
--- src/split.rt:32:13
 wide8-requires-2 : tie.Need-wide8-requires-2 Inv-loop μ-loop
 wide8-requires-2 c κs = search needs
 
--- src/split.rt:33:34
 add-add-share : tie.Need-add-add-share Inv-loop μ-loop
 add-add-share c = search needs
 
--- src/split.rt:33:9
 add-share-requires : tie.Need-add-share-requires Inv-loop μ-loop
 add-share-requires c κs =
     let b = c .before .before .before .before .before .before in
@@ -77,7 +63,6 @@ add-share-requires c κs =
       percents = omega (arith, w .1, c .before .wide82 .ensures .0, upTo-more pt (l .loop .k + 1), upTo-le pt (l .loop .k + 1 + 1), b .pre .whole .hundred);
     }
 
--- src/split.rt:34:9
 add-c : tie.Need-add-c Inv-loop μ-loop
 add-c c =
     let b = c .before .before .before .before .before .before .before .before .before in
@@ -85,15 +70,12 @@ add-c c =
     let pt = b .args .t1 in
     omega (arith, l .loop .inv .1, upTo-le pt (l .loop .k + 1), b .pre .whole .hundred, c .before .before .before .before .wide82 .ensures .1)
 
--- src/split.rt:31:9
 add-k : tie.Need-add-k Inv-loop μ-loop
 add-k c = search needs
 
--- src/split.rt:31:5
 loop-less : tie.Need-loop-less Inv-loop μ-loop
 loop-less c = search needs
 
--- src/split.rt:31:5
 loop-again : tie.Need-loop-again Inv-loop μ-loop
 loop-again c =
     let b = c .before .before .before .before .before .before .before .before .before in
@@ -111,11 +93,9 @@ loop-again c =
           (lagged-more pt (b .args .a) (b .args .at) (now (b .args .dues)) k (l .loop .dues) (l .loop .c) (c .before .before .before .before .wide82 .result) (omega (arith, b .pre .whole .twelve)) (omega (arith, b .pre .on)) f g (w .3)),
     )
 
--- src/split.rt:24:1
 same-length : tie.Need-same-length Inv-loop μ-loop
 same-length c = c .before .loop .inv .3 .size
 
--- src/split.rt:24:1
 returns : tie.Need-returns Inv-loop μ-loop
 returns c =
     let b = c .before .before .before .before in

@@ -1,10 +1,8 @@
+-- `riverrun::months::decode` meets its contract. Assumes nothing.
 use Rattle.riverrun.proofs.months.decode.Statement.{statement}
 use Rattle.riverrun.proofs.months.decode.Tie as tie
-use Rattle.riverrun.proofs.months.decode.Reads as reads
-use Rattle.riverrun.proofs.months.decode.Lts as lts
-use Rattle.layout.proofs.bytes.le32.Reads as le32-reads
-use mathlib.Core.Path.{_≡_, refl, sym, ap, _∙_}
-use Prim.Native.Nat.{ℕ, _-_, _*_, _≤_, _<_}
+use mathlib.Core.Path.{_≡_, refl, sym, _∙_}
+use Prim.Native.Nat.{_-_, _≤_}
 use native.Mathlib.Omega.{arith}
 use borrow.Author.Needs.{needs}
 use denote.Ref.{now}
@@ -19,35 +17,27 @@ Inv-loop bytes runoff₀ n row₀ runoff row = (n ≡ length runoff₀) × (row 
 abbrev μ-loop : tie.MeasureT-loop
 μ-loop bytes runoff₀ n row₀ runoff row = n - row
 
--- src/months.rt:41:5
 loop-holds : tie.Need-loop-holds Inv-loop μ-loop
 loop-holds c = (refl, omega arith, refl, written-none _ _ _)
 
--- src/months.rt:42:35
 mul-le32 : tie.Need-mul-le32 Inv-loop μ-loop
 mul-le32 c = omega (arith, c .before .before .before .before .pre)
 
--- src/months.rt:42:23
 le32-requires : tie.Need-le32-requires Inv-loop μ-loop
 le32-requires c κs = omega (arith, c .before .before .before .before .pre)
 
--- src/months.rt:42:9
 mul-runoff : tie.Need-mul-runoff Inv-loop μ-loop
 mul-runoff c = search needs
 
--- src/months.rt:42:9
 slice-write-runoff : tie.Need-slice-write-runoff Inv-loop μ-loop
 slice-write-runoff c = omega arith
 
--- src/months.rt:41:9
 add-row : tie.Need-add-row Inv-loop μ-loop
 add-row c = omega (arith, c .before .before .before .before .before .pre)
 
--- src/months.rt:41:5
 loop-less : tie.Need-loop-less Inv-loop μ-loop
 loop-less c = search needs
 
--- src/months.rt:41:5
 loop-again : tie.Need-loop-again Inv-loop μ-loop
 loop-again c =
     let s = c .before .before .before .before .before .args in
@@ -55,11 +45,9 @@ loop-again c =
     let k = c .before .before .loop .row in
     (omega arith, omega arith, length-set x k (c .le32 .result) ∙ c .before .before .loop .inv .2, written-more 0 (sheetOf (length (now (s .runoff))) (now (s .bytes))) x k _ (omega arith) (c .le32 .ensures ∙ sym (sheet-place (length (now (s .runoff))) (now (s .bytes)) k (omega arith))) (c .before .before .loop .inv .3))
 
--- src/months.rt:36:1
 same-length : tie.Need-same-length Inv-loop μ-loop
 same-length c = c .before .loop .inv .2
 
--- src/months.rt:36:1
 returns : tie.Need-returns Inv-loop μ-loop
 returns c =
     let s = c .before .before .before .before .args in

@@ -1,11 +1,8 @@
+-- `riverrun::months::run_months` meets its contract. Assumes nothing.
 use Rattle.riverrun.proofs.months.run_months.Statement.{statement}
 use Rattle.riverrun.proofs.months.run_months.Tie as tie
-use Rattle.riverrun.proofs.months.run_months.Reads as reads
-use Rattle.riverrun.proofs.months.run_months.Lts as lts
-use Rattle.riverrun.proofs.months.next.Reads as next-reads
-use mathlib.Core.Path.{_≡_, refl, sym, ap, _∙_}
-use Prim.Native.Nat.{ℕ, _-_}
-use native.Mathlib.Omega.{arith}
+use mathlib.Core.Path.{_≡_, refl, _∙_}
+use Prim.Native.Nat.{_-_}
 use borrow.Author.Needs.{needs}
 use lib.ListN.{length}
 use denote.Ref.{now}
@@ -18,47 +15,36 @@ Inv-loop fd stations reservoirs patterns rights sheet₀ runoff₀ board₀ repo
 abbrev μ-loop : tie.MeasureT-loop
 μ-loop fd stations reservoirs patterns rights sheet₀ runoff₀ board₀ report₀ out₀ month₀ sheet runoff board report out month = 18446744073709551615 - month
 
--- src/months.rt:119:5
 loop-holds : tie.Need-loop-holds Inv-loop μ-loop
 loop-holds c = (refl, refl, refl, refl, refl, c .before .before .before .before .before .before .before .before .before .pre)
 
--- src/months.rt:120:13
 next-requires : tie.Need-next-requires Inv-loop μ-loop
 next-requires c κs = c .before .before .before .before .before .before .loop .inv .5
 
--- src/months.rt:133:13
 same-length : tie.Need-same-length Inv-loop μ-loop
 same-length c = c .before .before .before .before .before .before .before .before .before .before .before .next .kept .1 .1 .1 .1 .1 .1 .0 ∙ c .before .before .before .before .before .before .before .before .before .before .before .before .before .before .before .before .before .before .loop .inv .0
 
--- src/months.rt:133:13
 same-length-2 : tie.Need-same-length-2 Inv-loop μ-loop
 same-length-2 c = c .before .before .before .before .before .before .before .before .before .before .before .next .kept .1 .1 .1 .1 .1 .1 .1 .0 ∙ c .before .before .before .before .before .before .before .before .before .before .before .before .before .before .before .before .before .before .loop .inv .1
 
--- src/months.rt:133:13
 same-length-3 : tie.Need-same-length-3 Inv-loop μ-loop
 same-length-3 c = c .before .before .before .before .before .before .before .before .before .before .before .next .kept .1 .1 .1 .1 .1 .1 .1 .1 .0 ∙ c .before .before .before .before .before .before .before .before .before .before .before .before .before .before .before .before .before .before .loop .inv .2
 
--- src/months.rt:133:13
 same-length-4 : tie.Need-same-length-4 Inv-loop μ-loop
 same-length-4 c = c .before .before .before .before .before .before .before .before .before .before .before .next .kept .1 .1 .1 .1 .1 .1 .1 .1 .1 .0 ∙ c .before .before .before .before .before .before .before .before .before .before .before .before .before .before .before .before .before .before .loop .inv .3
 
--- src/months.rt:133:13
 same-length-5 : tie.Need-same-length-5 Inv-loop μ-loop
 same-length-5 c = c .before .before .before .before .before .before .before .before .before .before .before .next .kept .1 .1 .1 .1 .1 .1 .1 .1 .1 .1 .0 ∙ c .before .before .before .before .before .before .before .before .before .before .before .before .before .before .before .before .before .before .loop .inv .4
 
--- src/months.rt:133:13
 returns : tie.Need-returns Inv-loop μ-loop
 returns c = search needs
 
--- src/months.rt:135:9
 add-month : tie.Need-add-month Inv-loop μ-loop
 add-month c = search needs
 
--- src/months.rt:119:5
 loop-less : tie.Need-loop-less Inv-loop μ-loop
 loop-less c = search needs
 
--- src/months.rt:119:5
 loop-again : tie.Need-loop-again Inv-loop μ-loop
 loop-again c =
     let s = c .before .before .before .before .before .before .before .before .before .before .before .before .before .before .before .before .before .before .before .before .before .before .before .before .before .before .before .before .args in
@@ -66,27 +52,21 @@ loop-again c =
     let k = c .before .before .before .before .before .before .before .before .before .before .before .next .kept .1 .1 .1 .1 .1 .1 in
     (k .0 ∙ l .inv .0, k .1 .0 ∙ l .inv .1, k .1 .1 .0 ∙ l .inv .2, k .1 .1 .1 .0 ∙ l .inv .3, k .1 .1 .1 .1 .0 ∙ l .inv .4, lent-again (now (s .stations)) (now (s .reservoirs)) (now (s .patterns)) (now (s .rights)) (l .sheet) (l .runoff) (l .board) (l .report) (l .out) (l .inv .5) _ _ _ _ _ (k .0) (k .1 .0) (k .1 .1 .0) (k .1 .1 .1 .0) (k .1 .1 .1 .1 .0) (c .before .before .before .before .before .before .before .before .before .before .before .next .ensures))
 
--- src/months.rt:104:1
 same-length-6 : tie.Need-same-length-6 Inv-loop μ-loop
 same-length-6 c = c .before .loop .inv .0
 
--- src/months.rt:104:1
 same-length-7 : tie.Need-same-length-7 Inv-loop μ-loop
 same-length-7 c = c .before .loop .inv .1
 
--- src/months.rt:104:1
 same-length-8 : tie.Need-same-length-8 Inv-loop μ-loop
 same-length-8 c = c .before .loop .inv .2
 
--- src/months.rt:104:1
 same-length-9 : tie.Need-same-length-9 Inv-loop μ-loop
 same-length-9 c = c .before .loop .inv .3
 
--- src/months.rt:104:1
 same-length-10 : tie.Need-same-length-10 Inv-loop μ-loop
 same-length-10 c = c .before .loop .inv .4
 
--- src/months.rt:104:1
 returns-2 : tie.Need-returns-2 Inv-loop μ-loop
 returns-2 c = search needs
 

@@ -1,12 +1,11 @@
+-- `steps::month::put_rows` meets its contract. Assumes nothing.
 use Rattle.steps.proofs.month.put_rows.Statement.{statement}
 use Rattle.steps.proofs.month.put_rows.Tie as tie
-use Rattle.steps.proofs.month.put_rows.Reads as reads
-use Rattle.steps.proofs.month.put_rows.Lts as lts
-use mathlib.Core.Path.{_≡_, refl, sym, ap, _∙_, subst}
-use Prim.Native.Nat.{ℕ, _+_, _-_, _*_, _≤_, _<_}
+use mathlib.Core.Path.{subst}
+use Prim.Native.Nat.{ℕ, _+_, _-_, _*_, _≤_}
 use native.Mathlib.Omega.{arith}
 use borrow.Author.Needs.{needs}
-use lib.ListN.{length, getD, length-set}
+use lib.ListN.{getD, length-set}
 use denote.Ref.{now}
 use Rattle.steps.specs.Steps.{RowsTold}
 use Rattle.steps.proofs.Rows.{told-none, told-more}
@@ -17,85 +16,66 @@ Inv-loop flow available n at report₀ w₀ report w = (w ≤ n) × RowsTold w a
 abbrev μ-loop : tie.MeasureT-loop
 μ-loop flow available n at report₀ w₀ report w = n - w
 
--- src/month.rt:53:5
 loop-holds : tie.Need-loop-holds Inv-loop μ-loop
 loop-holds c =
     let s = c .args in
     (omega arith, told-none (s .n) (s .at) (now (s .flow)) (now (s .available)) (now (s .report)) (c .pre))
 
--- src/month.rt:54:30
 mul-report : tie.Need-mul-report Inv-loop μ-loop
 mul-report c = search needs
 
--- src/month.rt:54:30
 element-copy-out-report : tie.Need-element-copy-out-report Inv-loop μ-loop
 element-copy-out-report c = omega (arith, c .before .before .pre .few)
 
--- src/month.rt:54:21
 mul-report-2 : tie.Need-mul-report-2 Inv-loop μ-loop
 mul-report-2 c = omega (arith, c .before .before .before .pre .few)
 
--- src/month.rt:54:16
 add-report : tie.Need-add-report Inv-loop μ-loop
 add-report c = omega (arith, c .before .before .before .pre .places, c .before .before .loop .inv .1 .size)
 
--- src/month.rt:54:9
 mul-report-3 : tie.Need-mul-report-3 Inv-loop μ-loop
 mul-report-3 c = search needs
 
--- src/month.rt:54:9
 slice-write-report : tie.Need-slice-write-report Inv-loop μ-loop
 slice-write-report c = omega (arith, c .before .before .before .pre .places, c .before .before .loop .inv .1 .size)
 
--- src/month.rt:55:34
 mul-report-4 : tie.Need-mul-report-4 Inv-loop μ-loop
 mul-report-4 c = search needs
 
--- src/month.rt:55:34
 element-copy-out-report-2 : tie.Need-element-copy-out-report-2 Inv-loop μ-loop
 element-copy-out-report-2 c = omega (arith, c .before .before .before .pre .few)
 
--- src/month.rt:55:21
 mul-report-5 : tie.Need-mul-report-5 Inv-loop μ-loop
 mul-report-5 c = omega (arith, c .before .before .before .before .pre .few)
 
--- src/month.rt:55:16
 add-report-2 : tie.Need-add-report-2 Inv-loop μ-loop
 add-report-2 c = omega (arith, c .before .before .before .before .pre .places, c .before .before .before .loop .inv .1 .size)
 
--- src/month.rt:55:16
 add-report-3 : tie.Need-add-report-3 Inv-loop μ-loop
 add-report-3 c = omega (arith, c .before .before .before .before .pre .places, c .before .before .before .loop .inv .1 .size)
 
--- src/month.rt:55:9
 mul-report-6 : tie.Need-mul-report-6 Inv-loop μ-loop
 mul-report-6 c = search needs
 
--- src/month.rt:55:9
 slice-write-report-2 : tie.Need-slice-write-report-2 Inv-loop μ-loop
 slice-write-report-2 c =
     let s = c .before .before .before .before .args in
     omega (arith, c .before .before .before .before .pre .places, c .before .before .before .loop .inv .1 .size, length-set (c .before .before .before .loop .report) (s .at + 2 * (c .before .before .before .loop .w)) (getD (now (s .flow)) (c .before .before .before .loop .w) 0))
 
--- src/month.rt:53:9
 add-w : tie.Need-add-w Inv-loop μ-loop
 add-w c = omega (arith, c .before .before .before .before .pre .few)
 
--- src/month.rt:53:5
 loop-less : tie.Need-loop-less Inv-loop μ-loop
 loop-less c = search needs
 
--- src/month.rt:53:5
 loop-again : tie.Need-loop-again Inv-loop μ-loop
 loop-again c =
     let s = c .before .before .before .before .args in
     (omega arith, told-more (s .n) (s .at) (now (s .flow)) (now (s .available)) (now (s .report)) (c .before .before .before .before .pre) (c .before .before .before .loop .w) (omega arith) (c .before .before .before .loop .report) (c .before .before .before .loop .inv .1))
 
--- src/month.rt:43:1
 same-length : tie.Need-same-length Inv-loop μ-loop
 same-length c = c .before .loop .inv .1 .size
 
--- src/month.rt:43:1
 returns : tie.Need-returns Inv-loop μ-loop
 returns c =
     let s = c .before .before .args in

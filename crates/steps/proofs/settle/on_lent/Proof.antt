@@ -1,12 +1,7 @@
+-- `steps::settle::on_lent` meets its contract. Assumes nothing.
 use borrow.Author.Needs.{needs}
 use Rattle.steps.proofs.settle.on_lent.Statement.{statement}
 use Rattle.steps.proofs.settle.on_lent.Tie as tie
-use Rattle.steps.proofs.settle.on_lent.Reads as reads
-use Rattle.steps.proofs.settle.on_lent.Lts as lts
-use Rattle.layout.proofs.contents.section.Reads as section-reads
-use Rattle.calls.proofs.answer.on_file.Reads as on-file-reads
-use Rattle.boards.proofs.possible.is_possible.Reads as is-possible-reads
-use Rattle.steps.proofs.settle.lists_fit.Reads as lists-fit-reads
 use mathlib.Core.Path.{sym, _∙_}
 use native.Mathlib.Omega.{arith}
 use borrow.Author.Tests.{not-true, not-false}
@@ -16,34 +11,27 @@ use Rattle.calls.proofs.Answers.{accepted-of}
 use Rattle.steps.proofs.Settling.{lists-told, fits-parts, lent-file, lent-unfit, lent-impossible, lent-good}
 use Rattle.records.specs.Records.{basinOf}
 
--- src/settle.rt:69:9
 on-file-requires : tie.Need-on-file-requires
 on-file-requires c κs = search needs
 
--- src/settle.rt:71:9
 returns : tie.Need-returns
 returns c = let s = c .before .before .before .before .before .before .before .args in lent-file (now (s .file)) (now (s .runoff)) (now (s .board)) (now (s .report)) _ (c .before .before .on-file .ensures) (c .if1 .taken)
 
--- src/settle.rt:73:9
 section-requires : tie.Need-section-requires
 section-requires c κs = search needs
 
--- src/settle.rt:74:9
 section-requires-2 : tie.Need-section-requires-2
 section-requires-2 c κs = search needs
 
--- src/settle.rt:75:9
 section-requires-3 : tie.Need-section-requires-3
 section-requires-3 c κs = search needs
 
--- src/settle.rt:76:9
 lists-fit-requires : tie.Need-lists-fit-requires
 lists-fit-requires c κs =
     let f = now (c .before .before .before .before .before .before .before .before .before .before .args .file) in
     let h = counted f (accepted-of f _ (c .before .before .before .before .before .on-file .ensures) (omega arith)) in
     rw (c .before .before .section .ensures, c .before .section2 .ensures, c .section3 .ensures) h
 
--- src/settle.rt:77:9
 returns-2 : tie.Need-returns-2
 returns-2 c =
     let s = c .before .before .before .before .before .before .before .before .before .before .before .before .args in
@@ -51,7 +39,6 @@ returns-2 c =
     let p = lists-told f (now (s .runoff)) (now (s .board)) (now (s .report)) (c .before .before .before .before .section .ensures) (c .before .before .before .section2 .ensures) (c .before .before .section3 .ensures) (c .before .lists-fit .ensures) in
     lent-unfit f (now (s .runoff)) (now (s .board)) (now (s .report)) (accepted-of f _ (c .before .before .before .before .before .before .before .on-file .ensures) (omega arith)) (sym p ∙ not-true _ (c .if2 .taken))
 
--- src/settle.rt:82:9
 is-possible-requires : tie.Need-is-possible-requires
 is-possible-requires c κs =
     let s = c .before .before .before .before .before .before .before .before .before .before .before .before .args in
@@ -62,7 +49,6 @@ is-possible-requires c κs =
     let h = sized f b (accepted-of f _ (c .before .before .before .before .before .before .before .on-file .ensures) (omega arith)) (fits .2) in
     rw (c .before .before .before .before .section .ensures, c .before .before .before .section2 .ensures, c .before .before .section3 .ensures) h
 
--- src/settle.rt:83:9
 returns-3 : tie.Need-returns-3
 returns-3 c =
     let s = c .before .before .before .before .before .before .before .before .before .before .before .before .before .before .args in
@@ -72,7 +58,6 @@ returns-3 c =
     let p = possible-told f b (c .before .before .before .before .before .before .section .ensures) (c .before .before .before .before .before .section2 .ensures) (c .before .before .before .before .section3 .ensures) (c .before .is-possible .ensures) in
     lent-impossible f (now (s .runoff)) b (now (s .report)) (accepted-of f _ (c .before .before .before .before .before .before .before .before .before .on-file .ensures) (omega arith)) (sym l ∙ not-false _ (c .before .before .if2 .left)) (sym p ∙ not-true _ (c .if3 .taken))
 
--- src/settle.rt:66:1
 returns-4 : tie.Need-returns-4
 returns-4 c =
     let s = c .before .before .before .before .before .before .before .before .before .before .before .before .before .before .args in

@@ -1,9 +1,8 @@
+-- `steps::settle::on_runoff` meets its contract. Assumes nothing.
 use Rattle.steps.proofs.settle.on_runoff.Statement.{statement}
 use Rattle.steps.proofs.settle.on_runoff.Tie as tie
-use Rattle.steps.proofs.settle.on_runoff.Reads as reads
-use Rattle.steps.proofs.settle.on_runoff.Lts as lts
-use mathlib.Core.Path.{_≡_, refl, sym, ap, _∙_}
-use Prim.Native.Nat.{ℕ, _+_, _-_, _≤_, _<_}
+use mathlib.Core.Path.{_≡_, refl, _∙_}
+use Prim.Native.Nat.{_-_, _≤_}
 use native.Mathlib.Omega.{arith}
 use borrow.Author.Needs.{needs}
 use lib.ListN.{length}
@@ -18,39 +17,30 @@ Inv-loop runoff n row₀ row = (n ≡ length runoff) × (row ≤ n) × (overFrom
 abbrev μ-loop : tie.MeasureT-loop
 μ-loop runoff n row₀ row = n - row
 
--- src/settle.rt:50:5
 loop-holds : tie.Need-loop-holds Inv-loop μ-loop
 loop-holds c = (refl, omega arith, over-all _)
 
--- src/settle.rt:51:12
 mul-if1 : tie.Need-mul-if1 Inv-loop μ-loop
 mul-if1 c = search needs
 
--- src/settle.rt:51:12
 shared-slice-read-if1 : tie.Need-shared-slice-read-if1 Inv-loop μ-loop
 shared-slice-read-if1 c = search needs
 
--- src/settle.rt:54:24
 cast-t8 : tie.Need-cast-t8 Inv-loop μ-loop
 cast-t8 c = omega (arith, c .before .before .before .before .pre)
 
--- src/settle.rt:52:13
 returns : tie.Need-returns Inv-loop μ-loop
 returns c = over-here (now (c .before .before .before .before .args .runoff)) _ (c .before .before .before .loop .row) (omega arith) (c .if1 .taken) ∙ c .before .before .before .loop .inv .2
 
--- src/settle.rt:50:9
 add-row : tie.Need-add-row Inv-loop μ-loop
 add-row c = search needs
 
--- src/settle.rt:50:5
 loop-less : tie.Need-loop-less Inv-loop μ-loop
 loop-less c = search needs
 
--- src/settle.rt:50:5
 loop-again : tie.Need-loop-again Inv-loop μ-loop
 loop-again c = (omega arith, omega arith, over-on (now (c .before .before .before .before .args .runoff)) _ (c .before .before .before .loop .row) (omega arith) (c .if1 .left) ∙ c .before .before .before .loop .inv .2)
 
--- src/settle.rt:45:1
 returns-2 : tie.Need-returns-2 Inv-loop μ-loop
 returns-2 c = over-done (now (c .before .before .args .runoff)) _ (c .before .loop .row) (omega arith) ∙ c .before .loop .inv .2
 

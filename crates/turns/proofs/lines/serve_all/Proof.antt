@@ -1,3 +1,4 @@
+-- `turns::lines::serve_all` meets its contract. Assumes nothing.
 use Prim.Native.Nat.{_-_, _≤_}
 use native.Mathlib.Omega.{arith}
 use borrow.Author.Needs.{needs}
@@ -18,7 +19,6 @@ Inv-loop stations below reservoirs patterns rights m flow₀ available₀ short�
 abbrev μ-loop : tie.MeasureT-loop
 μ-loop stations below reservoirs patterns rights m flow₀ available₀ short₀ board₀ report₀ n shorts₀ i₀ flow available short board report shorts i = n - i
 
--- src/lines.rt:126:5
 loop-holds : tie.Need-loop-holds Inv-loop μ-loop
 loop-holds c =
     let s = c .before .before .before .before .before .args in
@@ -28,7 +28,6 @@ loop-holds c =
       λ (b : Basin) (w : Setting b (now (s .stations)) (now (s .below)) (now (s .reservoirs)) (s .patterns) (now (s .rights))). served-none b (now (s .stations)) (now (s .below)) (now (s .reservoirs)) (s .patterns) (now (s .rights)) w (s .m) (now (s .flow)) (now (s .available)) (now (s .short)) (now (s .board)) (now (s .report)) (within-same (now (s .stations)) (now (s .below)) (now (s .reservoirs)) (s .patterns) (now (s .rights)) (q .basin) b (q .setting) w (now (s .board)) (q .within)) (q .river .within),
     )
 
--- src/lines.rt:127:19
 serve-line-requires : tie.Need-serve-line-requires Inv-loop μ-loop
 serve-line-requires c κs =
     let s = c .before .before .before .before .before .before .before .before .before .before .before .before .args in
@@ -36,7 +35,6 @@ serve-line-requires c κs =
     let l = c .before .before .before .before .before .before .loop in
     line-ready (q .basin) (now (s .stations)) (now (s .below)) (now (s .reservoirs)) (s .patterns) (now (s .rights)) (q .setting) (s .m) (now (s .flow)) (now (s .available)) (now (s .short)) (now (s .board)) (now (s .report)) (q .in-year) (q .river) (q .board) (q .marks) (q .lines) (l .i) (omega arith) (l .flow) (l .available) (l .short) (l .board) (l .report) (l .shorts) (l .inv .2 (q .basin) (q .setting))
 
--- src/lines.rt:127:9
 add-shorts : tie.Need-add-shorts Inv-loop μ-loop
 add-shorts c =
     let s = c .before .before .before .before .before .before .before .before .before .before .before .before .before .before .before .before .before .args in
@@ -44,7 +42,6 @@ add-shorts c =
     let l = c .before .before .before .before .before .before .before .before .before .before .before .loop in
     omega (arith, l .inv .1, rights-count (q .basin) (now (s .stations)) (now (s .below)) (now (s .reservoirs)) (s .patterns) (now (s .rights)) (q .setting), q .setting .accepted .few-rights, short-most (q .basin) _ _ _ _ _ _ _ _ _ _ _ _ _ _ (c .before .before .before .before .serve-line .ensures (q .basin) (q .setting)))
 
--- src/lines.rt:126:9
 add-i : tie.Need-add-i Inv-loop μ-loop
 add-i c =
     let s = c .before .before .before .before .before .before .before .before .before .before .before .before .before .before .before .before .before .args in
@@ -52,11 +49,9 @@ add-i c =
     let l = c .before .before .before .before .before .before .before .before .before .before .before .loop in
     omega (arith, l .inv .0, rights-count (q .basin) (now (s .stations)) (now (s .below)) (now (s .reservoirs)) (s .patterns) (now (s .rights)) (q .setting), q .setting .accepted .few-rights)
 
--- src/lines.rt:126:5
 loop-less : tie.Need-loop-less Inv-loop μ-loop
 loop-less c = search needs
 
--- src/lines.rt:126:5
 loop-again : tie.Need-loop-again Inv-loop μ-loop
 loop-again c =
     let s = c .before .before .before .before .before .before .before .before .before .before .before .before .before .before .before .before .before .args in
@@ -69,15 +64,12 @@ loop-again c =
           served-more b (now (s .stations)) (now (s .below)) (now (s .reservoirs)) (s .patterns) (now (s .rights)) w (s .m) (now (s .flow)) (now (s .available)) (now (s .short)) (now (s .board)) (now (s .report)) (l .i) (omega arith) (l .flow) (l .available) (l .short) (l .board) (l .report) (l .shorts) p (omega (arith, q .lines, p .lines .size)) _ _ _ _ _ _ (c .before .before .before .before .serve-line .ensures b w),
     )
 
--- src/lines.rt:108:1
 same-length : tie.Need-same-length Inv-loop μ-loop
 same-length c = c .before .loop .inv .2 (c .before .before .before .before .before .before .before .pre .basin) (c .before .before .before .before .before .before .before .pre .setting) .size
 
--- src/lines.rt:108:1
 same-length-2 : tie.Need-same-length-2 Inv-loop μ-loop
 same-length-2 c = c .before .loop .inv .2 (c .before .before .before .before .before .before .before .pre .basin) (c .before .before .before .before .before .before .before .pre .setting) .lines .size
 
--- src/lines.rt:108:1
 returns : tie.Need-returns Inv-loop μ-loop
 returns c =
     let s = c .before .before .before .before .before .before .before .args in

@@ -1,3 +1,4 @@
+-- `turns::lines::serve_line` meets its contract. Assumes nothing.
 use Prim.Native.Nat.{ℕ, _<_}
 use mathlib.Core.Path.{sym, ap, _∙_, subst}
 use borrow.Author.Needs.{needs}
@@ -13,19 +14,15 @@ use Rattle.turns.specs.Lines.{homeNumber, lineOf}
 use Rattle.turns.proofs.Facts.{place-most}
 use Rattle.turns.proofs.Naming.{can-name, name-same}
 
--- src/lines.rt:88:9
 right-at-requires : tie.Need-right-at-requires
 right-at-requires c κs = search needs
 
--- src/lines.rt:89:9
 serve-right-requires : tie.Need-serve-right-requires
 serve-right-requires c κs = search needs
 
--- src/lines.rt:103:46
 index-requires : tie.Need-index-requires
 index-requires c κs = search needs
 
--- src/lines.rt:103:9
 name-requires : tie.Need-name-requires
 name-requires c κs =
     let s = c .before .before .before .before .before .before .before .before .before .before .before .before .before .before .args in
@@ -35,22 +32,18 @@ name-requires c κs =
     let e = c .index .ensures .0 ∙ ap (λ (x : RightRecord). x .reservoir) (c .before .before .before .before .before .before .before .before .right-at .ensures) in
     λ h. subst (λ (v : ℕ). (v < reservoirCount (now (s .reservoirs))) × (homeRow (now (s .reservoirs)) v < rowsOf (now (s .stations)))) (sym e) (can-name (q .basin) (now (s .stations)) (now (s .below)) (now (s .reservoirs)) (s .patterns) (now (s .rights)) (q .setting) (s .i) (q .place) (s .m) (stateOf (q .basin) (now (s .flow)) (now (s .available)) (now (s .short)) (now (s .board))) made (turned .tells) h)
 
--- src/lines.rt:104:5
 put-line-requires : tie.Need-put-line-requires
 put-line-requires c κs =
     let s = c .before .before .before .before .before .before .before .before .before .before .before .before .before .before .before .before .args in
     let q = c .before .before .before .before .before .before .before .before .before .before .before .before .before .before .before .before .pre .ready in
     (place-most (q .basin) (now (s .stations)) (now (s .below)) (now (s .reservoirs)) (s .patterns) (now (s .rights)) (q .setting) (s .i) (q .place), c .before .before .before .before .before .before .before .before .before .before .before .before .before .before .before .before .pre .line)
 
--- src/lines.rt:71:1
 same-length : tie.Need-same-length
 same-length c = search needs
 
--- src/lines.rt:71:1
 same-length-2 : tie.Need-same-length-2
 same-length-2 c = search needs
 
--- src/lines.rt:71:1
 returns : tie.Need-returns
 returns c =
     let s = c .before .before .before .before .before .before .before .before .before .before .before .before .before .before .before .before .before .before .before .args in

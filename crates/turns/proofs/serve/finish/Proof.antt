@@ -1,3 +1,4 @@
+-- `turns::serve::finish` meets its contract. Assumes nothing.
 use mathlib.Core.Path.{refl}
 use native.Mathlib.Omega.{arith}
 use borrow.Author.Needs.{needs}
@@ -6,63 +7,50 @@ use Rattle.turns.proofs.serve.finish.Statement.{statement}
 use Rattle.turns.proofs.serve.finish.Tie as tie
 use Rattle.turns.proofs.Ending.{rest-fits, can-give, finished-short, finished-met}
 
--- src/serve.rt:48:13
 add-d : tie.Need-add-d
 add-d c = search needs
 
--- src/serve.rt:49:24
 wide8-requires : tie.Need-wide8-requires
 wide8-requires c κs = search needs
 
--- src/serve.rt:49:20
 mul-rest : tie.Need-mul-rest
 mul-rest c =
     let b = c .before .before .before in
     omega (arith, rest-fits (now (b .args .below)) (b .args .patterns) (now (b .args .rights)) (b .args .i) (b .args .right) (b .args .part) (b .args .stored) (now (b .args .flow)) (now (b .args .available)) (now (b .args .short)) (now (b .args .board)) (b .args .right .points) (b .args .right .pattern) (c .wide8 .result) (b .args .right .row) refl refl (c .wide8 .ensures .0) refl (b .pre) .0)
 
--- src/serve.rt:49:16
 sub-rest : tie.Need-sub-rest
 sub-rest c =
     let b = c .before .before .before in
     omega (arith, rest-fits (now (b .args .below)) (b .args .patterns) (now (b .args .rights)) (b .args .i) (b .args .right) (b .args .part) (b .args .stored) (now (b .args .flow)) (now (b .args .available)) (now (b .args .short)) (now (b .args .board)) (b .args .right .points) (b .args .right .pattern) (c .wide8 .result) (b .args .right .row) refl refl (c .wide8 .ensures .0) refl (b .pre) .1)
 
--- src/serve.rt:50:9
 index-requires : tie.Need-index-requires
 index-requires c κs = search needs
 
--- src/serve.rt:51:9
 index-requires-2 : tie.Need-index-requires-2
 index-requires-2 c κs = search needs
 
--- src/serve.rt:52:9
 index-requires-3 : tie.Need-index-requires-3
 index-requires-3 c κs = search needs
 
--- src/serve.rt:53:5
 give-returns-requires : tie.Need-give-returns-requires
 give-returns-requires c κs =
     let b = c .before .before .before .before .before .before .before .before .before in
     can-give (now (b .args .below)) (b .args .patterns) (now (b .args .rights)) (b .args .i) (b .args .right) (b .args .part) (b .args .stored) (now (b .args .flow)) (now (b .args .available)) (now (b .args .short)) (now (b .args .board)) (c .before .before .before .before .index2 .result) (c .before .before .before .index3 .result) (c .before .before .before .before .before .before .wide8 .result) (c .before .before .before .before .before .index .result) (c .before .before .before .before .index2 .ensures .0) (c .before .before .before .index3 .ensures .0) (c .before .before .before .before .before .before .wide8 .ensures .0) (c .before .before .before .before .before .index .ensures .0) (b .pre)
 
--- src/serve.rt:66:9
 element-write-short : tie.Need-element-write-short
 element-write-short c = search needs
 
--- src/serve.rt:67:9
 same-length : tie.Need-same-length
 same-length c = search needs
 
--- src/serve.rt:67:9
 returns : tie.Need-returns
 returns c =
     let b = c .before .before .before .before .before .before .before .before .before .before .before .before .before in
     finished-short (now (b .args .below)) (b .args .patterns) (now (b .args .rights)) (b .args .i) (b .args .right) (b .args .part) (b .args .stored) (now (b .args .flow)) (now (b .args .available)) (now (b .args .short)) (now (b .args .board)) (c .before .before .before .before .before .before .before .before .index2 .result) (c .before .before .before .before .before .before .before .index3 .result) (c .before .before .before .before .before .before .before .before .before .before .wide8 .result) (c .before .before .before .before .before .before .before .before .before .index .result) (c .before .before .before .before .before .before .before .before .index2 .ensures .0) (c .before .before .before .before .before .before .before .index3 .ensures .0) (c .before .before .before .before .before .before .before .before .before .before .wide8 .ensures .0) (c .before .before .before .before .before .before .before .before .before .index .ensures .0) (b .args .demand) (b .args .why) _ _ _ (c .before .before .before .give-returns .ensures) (c .if1 .taken)
 
--- src/serve.rt:30:1
 same-length-2 : tie.Need-same-length-2
 same-length-2 c = search needs
 
--- src/serve.rt:30:1
 returns-2 : tie.Need-returns-2
 returns-2 c =
     let b = c .before .before .before .before .before .before .before .before .before .before .before .before .before in

@@ -1,3 +1,4 @@
+-- `turns::serve::serve_right` meets its contract. Assumes nothing.
 use native.Mathlib.Omega.{arith}
 use borrow.Author.Needs.{needs}
 use denote.Ref.{now}
@@ -6,76 +7,63 @@ use Rattle.turns.proofs.serve.serve_right.Tie as tie
 use Rattle.turns.proofs.Assembling.{within-same, see-ok, part-ok, take-ok, fill-ok, draw-ok, finish-ok, turned}
 use Rattle.turns.proofs.Readying.{can-ask}
 
--- src/serve.rt:97:9
 right-at-requires : tie.Need-right-at-requires
 right-at-requires c κs = search needs
 
--- src/serve.rt:99:9
 index-requires : tie.Need-index-requires
 index-requires c κs = search needs
 
--- src/serve.rt:100:9
 index-requires-2 : tie.Need-index-requires-2
 index-requires-2 c κs = search needs
 
--- src/serve.rt:101:9
 demand-of-requires : tie.Need-demand-of-requires
 demand-of-requires c κs =
     let b = c .before .before .before .before .before .before .before .before in
     let pb = b .pre in
     (c .before .before .before .right-at .ensures, can-ask (pb .basin) (now (b .args .stations)) (now (b .args .below)) (now (b .args .reservoirs)) (b .args .patterns) (now (b .args .rights)) (pb .setting) (b .args .i) (pb .place) (b .args .m) (pb .in-year) (now (b .args .flow)) (now (b .args .available)) (now (b .args .short)) (now (b .args .board)) (pb .river) (pb .board) (pb .marks) (pb .within))
 
--- src/serve.rt:102:9
 river-part-requires : tie.Need-river-part-requires
 river-part-requires c κs =
     let b = c .before .before .before .before .before .before .before .before .before .before .before in
     let pb = b .pre in
     see-ok (pb .basin) (now (b .args .stations)) (now (b .args .below)) (now (b .args .reservoirs)) (b .args .patterns) (now (b .args .rights)) (pb .setting) (b .args .i) (pb .place) (b .args .m) (pb .in-year) (now (b .args .flow)) (now (b .args .available)) (now (b .args .short)) (now (b .args .board)) (pb .river) (pb .board) (pb .marks) (pb .within) (c .before .before .before .before .before .before .right-at .result) (c .before .before .before .before .before .index .result) (c .before .before .before .before .index2 .result) (c .before .before .before .before .before .before .right-at .ensures) (c .before .before .before .before .before .index .ensures .0) (c .before .before .before .before .index2 .ensures .0)
 
--- src/serve.rt:105:9
 short-reason-requires : tie.Need-short-reason-requires
 short-reason-requires c κs = search needs
 
--- src/serve.rt:106:5
 take-requires : tie.Need-take-requires
 take-requires c κs =
     let b = c .before .before .before .before .before .before .before .before .before .before .before .before .before .before .before in
     let pb = b .pre in
     take-ok (pb .basin) (now (b .args .stations)) (now (b .args .below)) (now (b .args .reservoirs)) (b .args .patterns) (now (b .args .rights)) (pb .setting) (b .args .i) (pb .place) (b .args .m) (pb .in-year) (now (b .args .flow)) (now (b .args .available)) (now (b .args .short)) (now (b .args .board)) (pb .river) (pb .board) (pb .marks) (pb .within) (c .before .before .before .before .before .before .before .before .before .before .right-at .result) (c .before .before .before .before .before .before .before .before .before .index .result) (c .before .before .before .before .before .before .before .before .index2 .result) (c .before .before .before .before .before .before .before .before .before .before .right-at .ensures) (c .before .before .before .before .before .before .before .before .before .index .ensures .0) (c .before .before .before .before .before .before .before .before .index2 .ensures .0) (c .before .before .before .before .before .before .demand-of .result) (c .before .before .before .before .before .before .demand-of .ensures) (c .before .before .before .river-part .result) (c .before .before .before .river-part .ensures)
 
--- src/serve.rt:107:5
 fill-requires : tie.Need-fill-requires
 fill-requires c κs =
     let b = c .before .before .before .before .before .before .before .before .before .before .before .before .before .before .before .before .before in
     let pb = b .pre in
     fill-ok (pb .basin) (now (b .args .stations)) (now (b .args .below)) (now (b .args .reservoirs)) (b .args .patterns) (now (b .args .rights)) (pb .setting) (b .args .i) (pb .place) (b .args .m) (pb .in-year) (now (b .args .flow)) (now (b .args .available)) (now (b .args .short)) (now (b .args .board)) (pb .river) (pb .board) (pb .marks) (pb .within) (c .before .before .before .before .before .before .before .before .before .before .before .before .right-at .result) (c .before .before .before .before .before .before .before .before .before .before .before .index .result) (c .before .before .before .before .before .before .before .before .before .before .index2 .result) (c .before .before .before .before .before .before .before .before .before .before .before .before .right-at .ensures) (c .before .before .before .before .before .before .before .before .before .before .before .index .ensures .0) (c .before .before .before .before .before .before .before .before .before .before .index2 .ensures .0) (c .before .before .before .before .before .before .before .before .demand-of .result) (c .before .before .before .before .before .before .before .before .demand-of .ensures) (c .before .before .before .before .before .river-part .result) (c .before .before .before .before .before .river-part .ensures)
 
--- src/serve.rt:108:69
 sub-draw : tie.Need-sub-draw
 sub-draw c =
     let b = c .before .before .before .before .before .before .before .before .before .before .before .before .before .before .before .before .before .before .before .before .before .before in
     let pb = b .pre in
     omega (arith, part-ok (pb .basin) (now (b .args .stations)) (now (b .args .below)) (now (b .args .reservoirs)) (b .args .patterns) (now (b .args .rights)) (pb .setting) (b .args .i) (pb .place) (b .args .m) (pb .in-year) (now (b .args .flow)) (now (b .args .available)) (now (b .args .short)) (now (b .args .board)) (pb .river) (pb .board) (pb .marks) (pb .within) (c .before .before .before .before .before .before .before .before .before .before .before .before .before .before .before .before .before .right-at .result) (c .before .before .before .before .before .before .before .before .before .before .before .before .before .before .before .before .index .result) (c .before .before .before .before .before .before .before .before .before .before .before .before .before .before .before .index2 .result) (c .before .before .before .before .before .before .before .before .before .before .before .before .before .before .before .before .before .right-at .ensures) (c .before .before .before .before .before .before .before .before .before .before .before .before .before .before .before .before .index .ensures .0) (c .before .before .before .before .before .before .before .before .before .before .before .before .before .before .before .index2 .ensures .0) (c .before .before .before .before .before .before .before .before .before .before .before .before .before .demand-of .result) (c .before .before .before .before .before .before .before .before .before .before .before .before .before .demand-of .ensures) (c .before .before .before .before .before .before .before .before .before .before .river-part .result) (c .before .before .before .before .before .before .before .before .before .before .river-part .ensures))
 
--- src/serve.rt:108:9
 draw-requires : tie.Need-draw-requires
 draw-requires c κs =
     let b = c .before .before .before .before .before .before .before .before .before .before .before .before .before .before .before .before .before .before .before .before .before .before in
     let pb = b .pre in
     draw-ok (pb .basin) (now (b .args .stations)) (now (b .args .below)) (now (b .args .reservoirs)) (b .args .patterns) (now (b .args .rights)) (pb .setting) (b .args .i) (pb .place) (b .args .m) (pb .in-year) (now (b .args .flow)) (now (b .args .available)) (now (b .args .short)) (now (b .args .board)) (pb .river) (pb .board) (pb .marks) (pb .within) (c .before .before .before .before .before .before .before .before .before .before .before .before .before .before .before .before .before .right-at .result) (c .before .before .before .before .before .before .before .before .before .before .before .before .before .before .before .before .index .result) (c .before .before .before .before .before .before .before .before .before .before .before .before .before .before .before .index2 .result) (c .before .before .before .before .before .before .before .before .before .before .before .before .before .before .before .before .before .right-at .ensures) (c .before .before .before .before .before .before .before .before .before .before .before .before .before .before .before .before .index .ensures .0) (c .before .before .before .before .before .before .before .before .before .before .before .before .before .before .before .index2 .ensures .0) (c .before .before .before .before .before .before .before .before .before .before .before .before .before .demand-of .result) (c .before .before .before .before .before .before .before .before .before .before .before .before .before .demand-of .ensures) (c .before .before .before .before .before .before .before .before .before .before .river-part .result) (c .before .before .before .before .before .before .before .before .before .before .river-part .ensures) _ _ _ (c .before .before .before .before .before .before .take .ensures) (c .before .before .before .before .fill .ensures)
 
--- src/serve.rt:109:5
 finish-requires : tie.Need-finish-requires
 finish-requires c κs =
     let b = c .before .before .before .before .before .before .before .before .before .before .before .before .before .before .before .before .before .before .before .before .before .before .before .before .before .before .before .before .before in
     let pb = b .pre in
     finish-ok (pb .basin) (now (b .args .stations)) (now (b .args .below)) (now (b .args .reservoirs)) (b .args .patterns) (now (b .args .rights)) (pb .setting) (b .args .i) (pb .place) (b .args .m) (pb .in-year) (now (b .args .flow)) (now (b .args .available)) (now (b .args .short)) (now (b .args .board)) (pb .river) (pb .board) (pb .marks) (pb .within) (c .before .before .before .before .before .before .before .before .before .before .before .before .before .before .before .before .before .before .before .before .before .before .before .before .right-at .result) (c .before .before .before .before .before .before .before .before .before .before .before .before .before .before .before .before .before .before .before .before .before .before .before .index .result) (c .before .before .before .before .before .before .before .before .before .before .before .before .before .before .before .before .before .before .before .before .before .before .index2 .result) (c .before .before .before .before .before .before .before .before .before .before .before .before .before .before .before .before .before .before .before .before .before .before .before .before .right-at .ensures) (c .before .before .before .before .before .before .before .before .before .before .before .before .before .before .before .before .before .before .before .before .before .before .before .index .ensures .0) (c .before .before .before .before .before .before .before .before .before .before .before .before .before .before .before .before .before .before .before .before .before .before .index2 .ensures .0) (c .before .before .before .before .before .before .before .before .before .before .before .before .before .before .before .before .before .before .before .before .demand-of .result) (c .before .before .before .before .before .before .before .before .before .before .before .before .before .before .before .before .before .before .before .before .demand-of .ensures) (c .before .before .before .before .before .before .before .before .before .before .before .before .before .before .before .before .before .river-part .result) (c .before .before .before .before .before .before .before .before .before .before .before .before .before .before .before .before .before .river-part .ensures) _ _ _ (c .before .before .before .before .before .before .before .before .before .before .before .before .before .take .ensures) (c .before .before .before .before .before .before .before .before .before .before .before .fill .ensures) (c .before .before .before .before .before .before .draw .result) _ _ (c .before .before .before .before .before .before .draw .ensures)
 
--- src/serve.rt:81:1
 same-length : tie.Need-same-length
 same-length c = search needs
 
--- src/serve.rt:81:1
 returns : tie.Need-returns
 returns c =
     let b = c .before .before .before .before .before .before .before .before .before .before .before .before .before .before .before .before .before .before .before .before .before .before .before .before .before .before .before .before .before .before .before .before in
