@@ -14,7 +14,7 @@ use Rattle.general.specs.Tests.{_and_, allTo}
 use Rattle.general.proofs.Tests.{eqb-other, by-eqb, leb-yes, ltb-yes, ltb-no}
 use Rattle.general.proofs.Tables.{tab-length, tab-at, tab-past, tab-same}
 use Rattle.general.proofs.Lists.{getD-zeros, getD-map-in}
-use Rattle.rules.specs.Basin.{Reservoir, Right, Basin, noReservoir, noRight}
+use Rattle.rules.specs.Basin.{Reservoir, Right, Basin, noReservoir, noRight, rows}
 use Rattle.rules.specs.Tally.{freshCarried}
 use Rattle.basin.specs.declared.Verdict.the-variants.{Accepted}
 use Rattle.layout.specs.Bytes.{le32At}
@@ -40,6 +40,20 @@ reservoirs-are rs = tab-length (reservoirOf rs) (reservoirCount rs)
 pub rights-are : (ri : List ℕ) → length (rightsOf ri) ≡ rightCount ri
 unfolding rightsOf
 rights-are ri = tab-length (rightOf ri) (rightCount ri)
+
+-- the same of the basin that four bodies make
+module _ (st rs ps ri : List ℕ) where
+  pub bodies-rows : rows (bodies st rs ps ri) ≡ rowsOf st
+  unfolding bodies
+  bodies-rows = rows-are st
+
+  pub bodies-reservoirs : length ((bodies st rs ps ri) .reservoirs) ≡ reservoirCount rs
+  unfolding bodies
+  bodies-reservoirs = reservoirs-are rs
+
+  pub bodies-rights : length ((bodies st rs ps ri) .rights) ≡ rightCount ri
+  unfolding bodies
+  bodies-rights = rights-are ri
 
 -- ---- what a place may hold
 

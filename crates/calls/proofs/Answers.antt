@@ -56,7 +56,7 @@ pub accepted-of : (f : List ℕ) (a : Answer) → a ≡ settled (fileRefusal f) 
 unfolding fileRefusal
 accepted-of f a e n = clear-file (checkOf f) (ap (λ (x : Answer). x .number) (sym e) ∙ n)
 
-clear-all : (v : Verdict) (fits can : Bool) → (settled (orElse (verdictRefusal v) (orElse (unless fits 6) (unless can 7)))) .number ≡ 0 → (v ≡ Accepted) × (fits ≡ true) × (can ≡ true)
+pub clear-all : (v : Verdict) (fits can : Bool) → (settled (orElse (verdictRefusal v) (orElse (unless fits 6) (unless can 7)))) .number ≡ 0 → (v ≡ Accepted) × (fits ≡ true) × (can ≡ true)
 unfolding settled verdictRefusal orElse unless
 clear-all Accepted true true e = (refl, refl, refl)
 clear-all Accepted true false e = absurd (omega arith)

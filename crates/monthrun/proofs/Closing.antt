@@ -11,6 +11,7 @@ use lib.ListN.{length, getD, set, length-set}
 use lib.Seq.{ext-getD, getD-set-same, getD-set-other}
 use Rattle.general.specs.Sums.{only, sumOver}
 use Rattle.general.specs.Tables.{tab, All}
+use Rattle.general.proofs.Entries.{tab-none}
 use Rattle.general.proofs.Tables.{tab-length, tab-at, tab-past, tab-same}
 use Rattle.general.proofs.Tests.{by-eqb, eqb-other, ltb-yes, ltb-no}
 use Rattle.rules.specs.Basin.{Basin, Right, rows, reservoirAt, patternOf}
@@ -34,6 +35,10 @@ use Rattle.boards.proofs.Board.{board-length, month-place, storage-place, marks
 use Rattle.boards.proofs.Bodies.{due-read}
 use Rattle.monthrun.proofs.Opened.{opened, opened-storage, opened-word, opened-taken, opened-due}
 
+-- two lists agree at p if they agree at a place that p is
+pub agree : (l made : List ℕ) (p q : ℕ) → p ≡ q → getD l q 0 ≡ getD made q 0 → getD l p 0 ≡ getD made p 0
+agree l made p q e h = ap (λ (x : ℕ). getD l x 0) e ∙ h ∙ ap (λ (x : ℕ). getD made x 0) (sym e)
+
 -- ---- a board is known by its parts
 
 module _ (b : Basin) (c : Carried) (due : ℕ → ℕ → ℕ) (l : List ℕ) (size : length l ≡ 970) (months : monthAt l ≡ c .m) (storages : (v : ℕ) → v < 8 → storageAt l v ≡ getD (c .storages) v 0)
@@ -42,24 +47,20 @@ module _ (b : Basin) (c : Carried) (due : ℕ → ℕ → ℕ) (l : List ℕ) (s
   abbrev made : List ℕ
   made = boardOf b c due
 
-  -- two lists agree at p if they agree at a place that p is
-  agree : (p q : ℕ) → p ≡ q → getD l q 0 ≡ getD made q 0 → getD l p 0 ≡ getD made p 0
-  agree p q e h = ap (λ (x : ℕ). getD l x 0) e ∙ h ∙ ap (λ (x : ℕ). getD made x 0) (sym e)
-
   same-due : (p : ℕ) → 266 ≤ p → p < 970 → getD l p 0 ≡ getD made p 0
   same-due p h k =
       let w : ℕ = (p - 266) / 11 in
       let j : ℕ = (p - 266) % 11 in
-      agree p (266 + 11 * w + (suc j - 1)) (omega arith) (dues w j (omega arith) (omega arith) ∙ sym (due-place b c due w j (omega arith) (omega arith)))
+      agree l made p (266 + 11 * w + (suc j - 1)) (omega arith) (dues w j (omega arith) (omega arith) ∙ sym (due-place b c due w j (omega arith) (omega arith)))
 
   same-at : (p : ℕ) → p < 970 → getD l p 0 ≡ getD made p 0
   same-at p h = first (decLt p 1) (decLt p 9) (decLt p 10) (decLt p 266)
     where
       first : Dec (p < 1) → Dec (p < 9) → Dec (p < 10) → Dec (p < 266) → getD l p 0 ≡ getD made p 0
-      first (yes x) _ _ _ = agree p 0 (omega arith) (months ∙ sym (month-place b c due))
-      first (no x) (yes y) _ _ = agree p (1 + (p - 1)) (omega arith) (storages (p - 1) (omega arith) ∙ sym (storage-place b c due (p - 1) (omega arith)))
-      first (no x) (no y) (yes z) _ = agree p 9 (omega arith) (marks ∙ sym (marks-place b c due))
-      first (no x) (no y) (no z) (yes u) = agree p (10 + (p - 10)) (omega arith) (taken (p - 10) (omega arith) ∙ sym (taken-place b c due (p - 10) (omega arith)))
+      first (yes x) _ _ _ = agree l made p 0 (omega arith) (months ∙ sym (month-place b c due))
+      first (no x) (yes y) _ _ = agree l made p (1 + (p - 1)) (omega arith) (storages (p - 1) (omega arith) ∙ sym (storage-place b c due (p - 1) (omega arith)))
+      first (no x) (no y) (yes z) _ = agree l made p 9 (omega arith) (marks ∙ sym (marks-place b c due))
+      first (no x) (no y) (no z) (yes u) = agree l made p (10 + (p - 10)) (omega arith) (taken (p - 10) (omega arith) ∙ sym (taken-place b c due (p - 10) (omega arith)))
       first (no x) (no y) (no z) (no u) = same-due p (omega arith) h
 
   pub board-by-parts : l ≡ made
@@ -83,10 +84,6 @@ low-bit x = ap (λ (t : Bool). only t 1) (bit-zero x) ∙ by-eqb (x % 2) 1 (λ t
         pick : Dec (x % 2 < 1) → x % 2 ≡ 0
         pick (yes h) = omega (arith, h)
         pick (no h) = absurd (n (omega (arith, h)))
-
-tab-none : {A : Type 0} (f : ℕ → A) → tab 0 f ≡ []
-unfolding tab
-tab-none f = refl
 
 pub word-bits : (n x : ℕ) → x < 2 ^ n → wordOf (tab n (bit x)) ≡ x
 unfolding wordOf

@@ -28,7 +28,7 @@ use Rattle.boards.specs.Calls.{runOf}
 use Rattle.steps.specs.Steps.{RowsTold}
 use Rattle.monthrun.proofs.Report.{river-place, storage-place, reason-place, name-place, flow-place, available-place, evaporation-place, places-beyond}
 use Rattle.monthrun.proofs.Opened.{opened}
-use Rattle.monthrun.proofs.Closing.{turns-are, closed-is, loss-is}
+use Rattle.monthrun.proofs.Closing.{agree, turns-are, closed-is, loss-is}
 
 -- ---- a report is known by its parts
 
@@ -52,9 +52,6 @@ module _ (b : Basin) (h : MonthRun) (names : ℕ → ℕ) (old l : List ℕ) (ro
       let e : p ≡ reportLength b + k = omega (arith, o) in
       ap (λ (x : ℕ). getD made x 0) e ∙ sym (getD-drop (reportLength b) made k 0) ∙ ap (λ (x : List ℕ). getD x k 0) (places-beyond b h names old) ∙ getD-drop (reportLength b) old k 0 ∙ ap (λ (x : ℕ). getD old x 0) (sym e)
 
-  agree : (p q : ℕ) → p ≡ q → getD l q 0 ≡ getD made q 0 → getD l p 0 ≡ getD made p 0
-  agree p q e o = ap (λ (x : ℕ). getD l x 0) e ∙ o ∙ ap (λ (x : ℕ). getD made x 0) (sym e)
-
   of-right : (p : ℕ) → p < rowsFrom b → getD l p 0 ≡ getD made p 0
   of-right p o = pick (decLt (p % 4) 1) (decLt (p % 4) 2) (decLt (p % 4) 3)
     where
@@ -65,10 +62,10 @@ module _ (b : Basin) (h : MonthRun) (names : ℕ → ℕ) (old l : List ℕ) (ro
       in-i = omega (arith, o)
 
       pick : Dec (p % 4 < 1) → Dec (p % 4 < 2) → Dec (p % 4 < 3) → getD l p 0 ≡ getD made p 0
-      pick (yes x) _ _ = agree p (4 * i) (omega (arith, x)) (river i in-i ∙ sym (river-place b h names old i in-i))
-      pick (no x) (yes y) _ = agree p (4 * i + 1) (omega (arith, x, y)) (storage i in-i ∙ sym (storage-place b h names old i in-i))
-      pick (no x) (no y) (yes z) = agree p (4 * i + 2) (omega (arith, y, z)) (reason i in-i ∙ sym (reason-place b h names old i in-i))
-      pick (no x) (no y) (no z) = agree p (4 * i + 3) (omega (arith, z)) (name i in-i ∙ sym (name-place b h names old i in-i))
+      pick (yes x) _ _ = agree l made p (4 * i) (omega (arith, x)) (river i in-i ∙ sym (river-place b h names old i in-i))
+      pick (no x) (yes y) _ = agree l made p (4 * i + 1) (omega (arith, x, y)) (storage i in-i ∙ sym (storage-place b h names old i in-i))
+      pick (no x) (no y) (yes z) = agree l made p (4 * i + 2) (omega (arith, y, z)) (reason i in-i ∙ sym (reason-place b h names old i in-i))
+      pick (no x) (no y) (no z) = agree l made p (4 * i + 3) (omega (arith, z)) (name i in-i ∙ sym (name-place b h names old i in-i))
 
   of-row : (p : ℕ) → rowsFrom b ≤ p → p < reservoirsFrom b → getD l p 0 ≡ getD made p 0
   of-row p o n = pick (decLt ((p - rowsFrom b) % 2) 1)
@@ -80,8 +77,8 @@ module _ (b : Basin) (h : MonthRun) (names : ℕ → ℕ) (old l : List ℕ) (ro
       in-w = omega (arith, o, n)
 
       pick : Dec ((p - rowsFrom b) % 2 < 1) → getD l p 0 ≡ getD made p 0
-      pick (yes x) = agree p (rowsFrom b + 2 * w) (omega (arith, o, x)) (flow w in-w ∙ sym (flow-place b h names old w in-w))
-      pick (no x) = agree p (rowsFrom b + 2 * w + 1) (omega (arith, o, x)) (available w in-w ∙ sym (available-place b h names old w in-w))
+      pick (yes x) = agree l made p (rowsFrom b + 2 * w) (omega (arith, o, x)) (flow w in-w ∙ sym (flow-place b h names old w in-w))
+      pick (no x) = agree l made p (rowsFrom b + 2 * w + 1) (omega (arith, o, x)) (available w in-w ∙ sym (available-place b h names old w in-w))
 
   same-at : (p : ℕ) → getD l p 0 ≡ getD made p 0
   same-at p = pick (decLt p (rowsFrom b)) (decLt p (reservoirsFrom b)) (decLt p (reportLength b))
@@ -92,7 +89,7 @@ module _ (b : Basin) (h : MonthRun) (names : ℕ → ℕ) (old l : List ℕ) (ro
       pick (no x) (no y) (yes z) =
           let v : ℕ = p - reservoirsFrom b in
           let in-v : v < length (b .reservoirs) = omega (arith, y, z) in
-          agree p (reservoirsFrom b + v) (omega (arith, y)) (losses v in-v ∙ sym (evaporation-place b h names old v in-v))
+          agree l made p (reservoirsFrom b + v) (omega (arith, y)) (losses v in-v ∙ sym (evaporation-place b h names old v in-v))
       pick (no x) (no y) (no z) = beyond p (omega (arith, z)) ∙ sym (made-beyond p (omega (arith, z)))
 
   pub report-by-parts : l ≡ made

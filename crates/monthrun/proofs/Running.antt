@@ -17,7 +17,6 @@ use Rattle.rules.specs.Month.{opening, nextMonth}
 use Rattle.rules.specs.Theorems.{mostDue}
 use Rattle.records.specs.Records.{rowsOf, stationsOf, reservoirCount, rightCount, patternCount, patternOf, patternsOf, sixteenPatterns}
 use Rattle.records.specs.Table.{tableOf}
-use Rattle.records.proofs.Rows.{rows-are}
 use Rattle.turns.specs.Lines.{CanServe, Served}
 use Rattle.monthends.specs.Losses.{Lost}
 use Rattle.monthends.specs.Opening.{CanGather, Gathered, openedAt}
@@ -29,7 +28,7 @@ use Rattle.boards.specs.Bodies.{bodies}
 use Rattle.boards.specs.Board.{monthAt, dueAt, carriedOf, possible}
 use Rattle.boards.specs.Report.{rowsFrom}
 use Rattle.steps.specs.Steps.{CanEnd, Ended, CanRun, Ran}
-use Rattle.boards.proofs.Bodies.{reservoirs-are, rights-are, marks-small}
+use Rattle.boards.proofs.Bodies.{bodies-rows, bodies-reservoirs, bodies-rights, marks-small}
 use Rattle.monthrun.proofs.Opened.{opened, opened-month, opened-storage, opened-taken, state-opened}
 use Rattle.boards.proofs.Bounds.{month-most, storage-most, marks-most, taken-most, due-most, capacity-most, limit-most}
 use Rattle.monthrun.proofs.Closing.{board-left}
@@ -99,16 +98,14 @@ module _ (b : Basin) (acc : Accepted b) (bd : List ℕ) (can : possible b bd ≡
 
 module _ (st rs ps ri runoff bd rp : List ℕ) (c : CanRun st rs ps ri runoff bd rp) where
   pub run-rows : rowsOf st ≤ 64
-  unfolding bodies
-  run-rows = omega (arith, rows-are st, c .accepted .few-rows)
+  run-rows = omega (arith, bodies-rows st rs ps ri, c .accepted .few-rows)
 
   pub run-patterns : patternCount ps ≤ 16
   unfolding bodies patternsOf
   run-patterns = omega (arith, tab-length (patternOf ps) (patternCount ps), c .accepted .few-patterns)
 
   pub run-rights : rightCount ri ≤ 256
-  unfolding bodies
-  run-rights = omega (arith, rights-are ri, c .accepted .few-rights)
+  run-rights = omega (arith, bodies-rights st rs ps ri, c .accepted .few-rights)
 
 module _ (st rs ps ri runoff bd rp : List ℕ) (c : CanRun st rs ps ri runoff bd rp) (t : List ℕ) (et : t ≡ tableOf (stationsOf st)) (pa : List (List ℕ)) (epa : pa ≡ sixteenPatterns ps) where
   abbrev b : Basin
@@ -118,20 +115,8 @@ module _ (st rs ps ri runoff bd rp : List ℕ) (c : CanRun st rs ps ri runoff bd
   unfolding bodies
   setting = record { accepted = c .accepted; stations = refl; table = et; reservoirs = refl; patterns = λ k h. sixteen ps k h ∙ ap (λ (x : List (List ℕ)). getD x k []) (sym epa); rights = refl }
 
-  rows-count : rows b ≡ rowsOf st
-  unfolding bodies
-  rows-count = rows-are st
-
-  rights-count : length (b .rights) ≡ rightCount ri
-  unfolding bodies
-  rights-count = rights-are ri
-
-  reservoirs-count : length (b .reservoirs) ≡ reservoirCount rs
-  unfolding bodies
-  reservoirs-count = reservoirs-are rs
-
   few-rows : rowsOf st ≤ 64
-  few-rows = omega (arith, rows-count, c .accepted .few-rows)
+  few-rows = omega (arith, bodies-rows st rs ps ri, c .accepted .few-rows)
 
   pub can-gather : (f a : List ℕ) → 64 ≤ length f → 64 ≤ length a → ((i : ℕ) → getD f i 0 ≡ 0) → ((i : ℕ) → getD a i 0 ≡ 0) → CanGather t runoff bd f a
   can-gather f a hf ha ef ea = record {
@@ -162,7 +147,7 @@ module _ (st rs ps ri runoff bd rp : List ℕ) (c : CanRun st rs ps ri runoff bd
       board = subst (λ (x : List ℕ). BoardOk x 1000000000000000000) (sym e₁) (record { size = opened-length bd (eqb (getD bd 0 0) 0); room = record { room = opened-small b (c .accepted) bd (c .can) (c .size) } });
       marks = marks;
       within = subst (Within b) (sym e₁) (opened-within b (c .accepted) bd (c .can) (c .size));
-      lines = omega (arith, c .room, rights-count);
+      lines = omega (arith, c .room, bodies-rights st rs ps ri);
     }
 
     start : stateOf b f a sh (opened bd) ≡ opening b (carriedOf b bd) runoff (tab (rows b) (λ u. dueAt bd u 1))
@@ -177,21 +162,21 @@ module _ (st rs ps ri runoff bd rp : List ℕ) (c : CanRun st rs ps ri runoff bd
 
       pub can-end : CanEnd rs n at bd₂ rp₁
       can-end = record {
-        few = omega (arith, reservoirs-count, c .accepted .few-reservoirs);
+        few = omega (arith, bodies-reservoirs st rs ps ri, c .accepted .few-reservoirs);
         in-year = omega (arith, month₂, month-is, month-most b bd (c .can));
         size = q .size ∙ opened-length bd (eqb (getD bd 0 0) 0);
         tell = record {
           few = omega (arith, en, few-rows);
-          places = omega (arith, eat, en, c .room, rights-count, rows-count, q .lines .size);
+          places = omega (arith, eat, en, c .room, bodies-rights st rs ps ri, bodies-rows st rs ps ri, q .lines .size);
         };
-        places = omega (arith, eat, en, c .room, rights-count, rows-count, reservoirs-count, q .lines .size);
+        places = omega (arith, eat, en, c .room, bodies-rights st rs ps ri, bodies-rows st rs ps ri, bodies-reservoirs st rs ps ri, q .lines .size);
       }
 
       pub ran : (bd₄ rp₃ : List ℕ) → Ended rs n at f₂ a₂ bd₂ rp₁ bd₄ rp₃ → Ran b runoff bd rp bd₄ rp₃ k
       ran bd₄ rp₃ z =
           let l : Lost rs m (reservoirCount rs) bd₂ (z .told) (at + 2 * n) (z .lowered) rp₃ = subst (λ (x : ℕ). Lost rs x (reservoirCount rs) bd₂ (z .told) (at + 2 * n) (z .lowered) rp₃) month₂ (z .lost) in
-          let rows-n : n ≡ rows b = en ∙ sym rows-count in
-          let from : at ≡ rowsFrom b = eat ∙ ap (λ (x : ℕ). 4 * x) (sym rights-count) in
+          let rows-n : n ≡ rows b = en ∙ sym (bodies-rows st rs ps ri) in
+          let from : at ≡ rowsFrom b = eat ∙ ap (λ (x : ℕ). 4 * x) (sym (bodies-rights st rs ps ri)) in
           record {
             board = board-left b st t rs pa ri setting runoff bd (c .can) f a sh start m month-is rp f₂ a₂ sh₂ bd₂ rp₁ k q (z .told) (at + 2 * n) (z .lowered) rp₃ l bd₄ (z .gone-on ∙ ap (λ (x : ℕ). set (z .lowered) 0 (nextMonth x)) month₂);
             report = report-left b st t rs pa ri setting runoff bd (c .can) f a sh start m month-is rp f₂ a₂ sh₂ bd₂ rp₁ k q (c .room) n at rows-n from (z .told) (z .rows-told) (z .lowered) rp₃ l;

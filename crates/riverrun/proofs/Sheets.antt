@@ -7,7 +7,7 @@ use native.Mathlib.Omega.{arith}
 use lib.ListN.{length, getD, take}
 use Rattle.general.proofs.Tables.{tab-length, tab-at}
 use Rattle.rules.specs.Accepted.{Accepted}
-use Rattle.rules.specs.Basin.{Basin, rows}
+use Rattle.rules.specs.Basin.{Basin}
 use Rattle.rules.specs.Tally.{fresh}
 use Rattle.rules.proofs.Bounds.{fresh-possible}
 use Rattle.basin.specs.declared.Verdict.the-variants as verdict
@@ -22,7 +22,7 @@ use Rattle.boards.specs.Bodies.{bodies, startBoard}
 use Rattle.boards.specs.Calls.{Outcome}
 use Rattle.boards.specs.Report.{reservoirsFrom}
 use Rattle.steps.specs.Steps.{CanGoOn, WentOn}
-use Rattle.boards.proofs.Bodies.{basin-bodies, reservoirs-are, rights-are, start-length, fresh-here}
+use Rattle.boards.proofs.Bodies.{basin-bodies, bodies-rows, bodies-reservoirs, bodies-rights, start-length, fresh-here}
 use Rattle.boards.proofs.Bounds.{bounded}
 use Rattle.monthrun.proofs.Going.{still-possible, losses-told}
 use Rattle.ledger.proofs.Tally.{tally-possible, tally-fresh}
@@ -40,30 +40,15 @@ sheet-place n bytes w h = tab-at (λ w. le32At bytes (4 * w)) n w 0 h
 
 -- ---- a month
 
-bodies-rows : (st rs ps ri : List ℕ) → rows (bodies st rs ps ri) ≡ rowsOf st
-unfolding bodies
-bodies-rows st rs ps ri = rows-are st
-
 module _ (st rs ps ri sheet runoff bd rp out : List ℕ) (l : Lent st rs ps ri sheet runoff bd rp out) where
   abbrev b : Basin
   b = bodies st rs ps ri
 
-  rows-count : rows b ≡ rowsOf st
-  rows-count = bodies-rows st rs ps ri
-
-  rights-count : length (b .rights) ≡ rightCount ri
-  unfolding bodies
-  rights-count = rights-are ri
-
-  reservoirs-count : length (b .reservoirs) ≡ reservoirCount rs
-  unfolding bodies
-  reservoirs-count = reservoirs-are rs
-
   room-told : 4 * rightCount ri + 2 * rowsOf st + reservoirCount rs ≤ 1160
-  room-told = omega (arith, rows-count, rights-count, reservoirs-count, l .accepted .few-rows, l .accepted .few-rights, l .accepted .few-reservoirs)
+  room-told = omega (arith, bodies-rows st rs ps ri, bodies-rights st rs ps ri, bodies-reservoirs st rs ps ri, l .accepted .few-rows, l .accepted .few-rights, l .accepted .few-reservoirs)
 
   pub can-go-on : (runoff′ : List ℕ) → length runoff′ ≡ length runoff → CanGoOn st rs ps ri runoff′ bd rp
-  can-go-on runoff′ e = record { accepted = l .accepted; sheet = e ∙ l .numbers; size = l .size; can = l .can; room = omega (arith, rows-count, rights-count, reservoirs-count, room-told, l .report) }
+  can-go-on runoff′ e = record { accepted = l .accepted; sheet = e ∙ l .numbers; size = l .size; can = l .can; room = omega (arith, bodies-rows st rs ps ri, bodies-rights st rs ps ri, bodies-reservoirs st rs ps ri, room-told, l .report) }
 
   module _ (runoff′ : List ℕ) (o : Outcome) (w : WentOn b runoff′ bd rp o) where
     pub can-still : possible b (o .board) ≡ true
@@ -73,18 +58,18 @@ module _ (st rs ps ri sheet runoff bd rp out : List ℕ) (l : Lent st rs ps ri s
     can-print size told none = record {
       board = bounded b (l .accepted) (o .board) size can-still;
       list = record {
-        few = omega (arith, rights-count, l .accepted .few-rights);
-        some-row = omega (arith, rows-count, l .accepted .connected .some-row);
-        few-rows = omega (arith, rows-count, l .accepted .few-rows);
-        few-reservoirs = omega (arith, reservoirs-count, l .accepted .few-reservoirs);
+        few = omega (arith, bodies-rights st rs ps ri, l .accepted .few-rights);
+        some-row = omega (arith, bodies-rows st rs ps ri, l .accepted .connected .some-row);
+        few-rows = omega (arith, bodies-rows st rs ps ri, l .accepted .few-rows);
+        few-reservoirs = omega (arith, bodies-reservoirs st rs ps ri, l .accepted .few-reservoirs);
         told = omega (arith, room-told, told, l .report);
-        small = λ v h. omega (arith, losses-told b (l .accepted) runoff′ bd rp o w none v (omega (arith, h, reservoirs-count)), ap (λ (x : ℕ). getD (o .report) x 0) (place v));
+        small = λ v h. omega (arith, losses-told b (l .accepted) runoff′ bd rp o w none v (omega (arith, h, bodies-reservoirs st rs ps ri)), ap (λ (x : ℕ). getD (o .report) x 0) (place v));
         room = l .room;
       };
     }
       where
         place : (v : ℕ) → 4 * rightCount ri + 2 * rowsOf st + v ≡ reservoirsFrom b + v
-        place v = omega (arith, rows-count, rights-count)
+        place v = omega (arith, bodies-rows st rs ps ri, bodies-rights st rs ps ri)
 
   -- the next month is lent the same room
   pub lent-again : (sheet′ runoff′ bd′ rp′ out′ : List ℕ) → length sheet′ ≡ length sheet → length runoff′ ≡ length runoff → length bd′ ≡ length bd → length rp′ ≡ length rp → length out′ ≡ length out

@@ -17,8 +17,7 @@ use Rattle.rules.specs.Basin.{Basin, rows}
 use Rattle.rules.specs.Turn.{Turn}
 use Rattle.rules.specs.Month.{isShort, shortCount}
 use Rattle.rules.specs.Tally.{Answer, reportLength, overLimit, overAnswer}
-use Rattle.basin.specs.declared.Verdict.{Verdict}
-use Rattle.basin.specs.declared.Verdict.the-variants.{Accepted, Layout, Station, Reservoir, Pattern, Right}
+use Rattle.basin.specs.declared.Verdict.the-variants.{Accepted}
 use Rattle.layout.specs.File.{sectionOf}
 use Rattle.records.specs.Records.{rowsOf, reservoirCount, rightCount, basinOf}
 use Rattle.basin.specs.Check.{checkOf}
@@ -26,12 +25,12 @@ use Rattle.basin.proofs.Accepted.{accepted-facts}
 use Rattle.records.proofs.Rows.{rows-are}
 use Rattle.boards.specs.Board.{possible}
 use Rattle.boards.specs.Report.{nameIn}
-use Rattle.boards.specs.Calls.{accepted, verdictRefusal, fileRefusal, orElse, unless, listsFit, monthRefusal, runOf, Outcome, monthSettled, monthOf, NamesAllowed, MonthMeets}
+use Rattle.boards.specs.Calls.{accepted, fileRefusal, orElse, unless, listsFit, monthRefusal, runOf, Outcome, monthSettled, monthOf, NamesAllowed, MonthMeets}
 use Rattle.boards.specs.Bodies.{bodies}
 use Rattle.calls.specs.Answers.{settled}
 use Rattle.steps.specs.Steps.{mostRunoff, lentRefusal, CanGoOn, WentOn}
 use Rattle.boards.proofs.Bodies.{basin-bodies, reservoirs-are, rights-are}
-use Rattle.calls.proofs.Answers.{refusing, settled-some, no-refusal}
+use Rattle.calls.proofs.Answers.{refusing, settled-some, no-refusal, clear-all}
 
 -- ---- the lists, by the bodies
 
@@ -142,17 +141,6 @@ module _ (f runoff board report : List ℕ) where
     pub file-ok : checkOf f ≡ Accepted
     pub lists-ok : listsFit (basinOf f) runoff board report ≡ true
     pub board-ok : possible (basinOf f) board ≡ true
-
-  clear-all : (v : Verdict) (fits can : Bool) → (settled (orElse (verdictRefusal v) (orElse (unless fits 6) (unless can 7)))) .number ≡ 0 → (v ≡ Accepted) × (fits ≡ true) × (can ≡ true)
-  unfolding settled verdictRefusal orElse unless
-  clear-all Accepted true true e = (refl, refl, refl)
-  clear-all Accepted true false e = absurd (omega arith)
-  clear-all Accepted false can e = absurd (omega arith)
-  clear-all Layout fits can e = absurd (omega arith)
-  clear-all (Station i) fits can e = absurd (omega arith)
-  clear-all (Reservoir i) fits can e = absurd (omega arith)
-  clear-all (Pattern i) fits can e = absurd (omega arith)
-  clear-all (Right i) fits can e = absurd (omega arith)
 
   pub lent-clear : (a : Answer) → a ≡ settled lent → a .number ≡ 0 → Clear
   unfolding lentRefusal fileRefusal
