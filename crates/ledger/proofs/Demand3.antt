@@ -15,22 +15,23 @@ use Rattle.rules.specs.Basin.{Basin, rows}
 use Rattle.rules.specs.River.{Sound, levelAt}
 use Rattle.rules.specs.Turn.{Turn}
 use Rattle.rules.specs.Month.{grantsOf, MonthRun, month, shortCount}
-use Rattle.rules.specs.Tally.{Call, Answer, reportLength, overLimit, overAnswer, judged, refusal, Tally, fresh, pending, arriving, nextRun, afterJudged, afterCall, answerJudged, answerOf}
+use Rattle.rules.specs.Tally.{Call, Answer, reportLength, overLimit, overAnswer, judged, refusal, Start, Tally, begun, pending, arriving, nextRun, standing, afterJudged, afterCall, answerJudged, answerOf}
+use Rattle.rules.specs.Water.{MonthSound}
 use Rattle.rules.specs.Accepted.{Accepted}
 use Rattle.rules.specs.Theorems.{Possible}
 use Rattle.rules.proofs.Months.{month-ok, month-length}
 use Rattle.rules.proofs.Names.{firstOf, Named, TurnNamed, month-named}
-use Rattle.rules.proofs.Bounds.{fresh-possible, call-possible}
-use Rattle.rules.proofs.Theorems.{water}
+use Rattle.rules.proofs.Bounds.{begun-possible, call-possible}
+use Rattle.rules.proofs.Theorems.{water, checkpoints}
 use Rattle.basin.specs.declared.Verdict.the-variants.{Accepted as AcceptedFile}
 use Rattle.records.specs.Records.{basinOf}
 use Rattle.basin.specs.Check.{checkOf}
 use Rattle.boards.specs.Board.{dueAt, carriedOf, possible}
 use Rattle.boards.specs.Report.{noGrant, grantAt, rowsFrom, reservoirsFrom, reportOf, nameIn}
 use Rattle.boards.specs.Calls.{verdictRefusal, fileRefusal, orElse, unless, boardFits, listsFit, freshRefusal, monthRefusal, freshBoard, freshSettled, freshOf, runOf, boardAfter, Outcome, monthSettled, monthOf, NamesAllowed, MonthMeets}
-use Rattle.ledger.specs.Demand3.{Event, callOf, Run, Tells, ReportOk, tallyBoard, Follows, AllFollow, Demand3}
+use Rattle.ledger.specs.Demand3.{Event, callOf, Run, Tells, ReportOk, startOf, tallyBoard, Follows, AllFollow, Demand3, FreshBoard}
 use Rattle.boards.proofs.Board.{board-length}
-use Rattle.ledger.proofs.Tally.{tally-possible, tally-run, tally-next, tally-fresh}
+use Rattle.ledger.proofs.Tally.{tally-possible, tally-run, tally-next, start-possible, tally-begins, fresh-size, fresh-can, fresh-starts}
 use Rattle.monthrun.proofs.Report.{own-number, river-place, storage-place, reason-place, name-place, flow-place, available-place, evaporation-place, places-beyond, report-same}
 use Rattle.rules.specs.Tally as tally
 
@@ -73,7 +74,7 @@ same-refusal f runoff board report e n p =
 
 tally-length : (b : Basin) (t : Tally) → length (tallyBoard b t) ≡ 970
 unfolding tallyBoard
-tally-length b t = board-length b (t .carried) (pending b (t .months))
+tally-length b t = board-length b (t .carried) (pending b (t .start) (t .months))
 
 fresh-given : (f l : List ℕ) → (freshSettled none f l) .board ≡ freshBoard (basinOf f)
 unfolding freshSettled
@@ -81,11 +82,11 @@ fresh-given f l = refl
 
 -- ---- the report of an accepted month
 
-module _ (b : Basin) (acc : Accepted b) (t : Tally) (p : Possible b t) (c : Call) where
+module _ (b : Basin) (acc : Accepted b) (t : Tally) (p : Possible b (standing b t)) (c : Call) where
   -- after step 3 nothing is negative
   closed-sound : (w : ℕ) → Sound (levelAt (((nextRun b t c) .closed) .levels) w)
-  unfolding nextRun
-  closed-sound w = (month-ok b acc (t .carried) (p .storages-count) (c .runoff) (arriving b (t .months))) .closed-good .sound w
+  unfolding nextRun standing
+  closed-sound w = (month-ok b acc (t .carried) (p .storages-count) (c .runoff) (arriving b (t .start) (t .months))) .closed-good .sound w
 
   tells : (names : ℕ → ℕ) (before after : List ℕ) → after ≡ reportOf b (nextRun b t c) names before
       → ((i : ℕ) → i < length (b .rights) → has (nameIn after i) ((grantAt (nextRun b t c) i) .stations) ≡ true) → Tells b (nextRun b t c) before after
@@ -110,7 +111,7 @@ module _ (f : List ℕ) (ok : checkOf f ≡ AcceptedFile) (acc : Accepted (basin
   abbrev Settled : Option Answer → Tally → Event → Type 0
   Settled v t e = ((e .outcome) .answer ≡ answerJudged v (basinOf f) t (callOf e)) × ReportOk v (basinOf f) t e × ((e .outcome) .board ≡ tallyBoard (basinOf f) (afterJudged v (basinOf f) t (callOf e)))
 
-  settled : (t : Tally) → Possible (basinOf f) t → (e : Event) (v : Option Answer) (names : ℕ → ℕ)
+  settled : (t : Tally) → Possible (basinOf f) (standing (basinOf f) t) → (e : Event) (v : Option Answer) (names : ℕ → ℕ)
       → e .outcome ≡ monthSettled v (basinOf f) (e .runoff) (tallyBoard (basinOf f) t) (e .report) names
       → NamesAllowed v (basinOf f) (runOf (basinOf f) (e .runoff) (tallyBoard (basinOf f) t)) (nameIn ((e .outcome) .report))
       → Settled v t e
@@ -127,7 +128,7 @@ module _ (f : List ℕ) (ok : checkOf f ≡ AcceptedFile) (acc : Accepted (basin
       )
   settled t p e (some a) names q h = (ap (λ (o : Outcome). o .answer) q, ap (λ (o : Outcome). o .report) q, ap (λ (o : Outcome). o .board) q)
 
-  follow : (t : Tally) → Possible (basinOf f) t → (e : Event) → MonthMeets f (e .runoff) (tallyBoard (basinOf f) t) (e .report) (e .outcome) → Follows (basinOf f) t e
+  follow : (t : Tally) → Possible (basinOf f) (standing (basinOf f) t) → (e : Event) → MonthMeets f (e .runoff) (tallyBoard (basinOf f) t) (e .report) (e .outcome) → Follows (basinOf f) t e
   unfolding afterCall answerOf monthOf
   follow t p e m =
       let b : Basin = basinOf f in
@@ -139,26 +140,46 @@ module _ (f : List ℕ) (ok : checkOf f ≡ AcceptedFile) (acc : Accepted (basin
       (subst (λ (v : Option Answer). NamesAllowed v b (runOf b (e .runoff) board) names) same (m .names)) in
       record { answer = s .0; report = s .1; board = s .2 }
 
-  all-follow : (t : Tally) → Possible (basinOf f) t → (es : List Event) → Run f (tallyBoard (basinOf f) t) es → AllFollow (basinOf f) t es
+  all-follow : (t : Tally) → Possible (basinOf f) (standing (basinOf f) t) → (es : List Event) → Run f (tallyBoard (basinOf f) t) es → AllFollow (basinOf f) t es
   all-follow t p [] r = tt
   all-follow t p (e ∷ es) r =
       let h : Follows (basinOf f) t e = follow t p e (r .0) in
       (h, all-follow (afterCall (basinOf f) t (callOf e)) (call-possible (basinOf f) acc t (callOf e) p) es (subst (λ (l : List ℕ). Run f l es) (h .board) (r .1)))
 
-  fresh-board : (board : List ℕ) → length board ≡ 970 → (freshOf f board) .board ≡ tallyBoard (basinOf f) (fresh (basinOf f))
+  pub demand : (board : List ℕ) → length board ≡ 970 → possible (basinOf f) board ≡ true → (es : List Event) → Run f board es → Demand3 f (startOf (basinOf f) board) es
+  demand board n can es r =
+      let b : Basin = basinOf f in
+      let s : Start = startOf b board in
+      let p : Possible b s = start-possible b acc board n can in
+      record {
+        follows = all-follow (begun s) (begun-possible b s p) es (subst (λ (l : List ℕ). Run f l es) (tally-begins b acc board n can) r);
+        water = water b acc s p (map callOf es);
+      }
+
+  pub board-checkpoints : (board runoff : List ℕ) → length board ≡ 970 → possible (basinOf f) board ≡ true → MonthSound (basinOf f) (runOf (basinOf f) runoff board)
+  unfolding runOf startOf
+  board-checkpoints board runoff n can = checkpoints (basinOf f) acc (startOf (basinOf f) board) (start-possible (basinOf f) acc board n can) runoff
+
+  -- ---- the fresh board
+
+  fresh-board : (board : List ℕ) → length board ≡ 970 → (freshOf f board) .board ≡ freshBoard (basinOf f)
   unfolding freshOf freshRefusal
   fresh-board board n =
       let e : orElse (fileRefusal f) (unless (boardFits board) 6) ≡ none = or-none (fileRefusal f) _ (file-accepted f ok) ∙ unless-yes (boardFits board) 6 (rw n (eqb-same 970)) in
-      ap (λ (v : Option Answer). (freshSettled v f board) .board) e ∙ given board ∙ tally-fresh (basinOf f)
+      ap (λ (v : Option Answer). (freshSettled v f board) .board) e ∙ given board
     where
       given : (l : List ℕ) → (freshSettled none f l) .board ≡ freshBoard (basinOf f)
       given l = fresh-given f l
 
-  pub demand : (board : List ℕ) → length board ≡ 970 → (es : List Event) → Run f ((freshOf f board) .board) es → Demand3 f es
-  demand board n es r = record {
-    follows = all-follow (fresh (basinOf f)) (fresh-possible (basinOf f) acc) es (subst (λ (l : List ℕ). Run f l es) (fresh-board board n) r);
-    water = water (basinOf f) acc (map callOf es);
-  }
+  pub fresh-facts : (board : List ℕ) → length board ≡ 970 → FreshBoard f board
+  fresh-facts board n =
+      let b : Basin = basinOf f in
+      let e : (freshOf f board) .board ≡ freshBoard b = fresh-board board n in
+      record {
+        size = ap (λ (l : List ℕ). length l) e ∙ fresh-size b acc;
+        is-possible = ap (possible b) e ∙ fresh-can b acc;
+        starts = ap (startOf b) e ∙ fresh-starts b acc;
+      }
 
 -- ---- the claim is not empty: an engine that names the first station that may be named meets the contract
 

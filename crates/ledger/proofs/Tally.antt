@@ -1,72 +1,171 @@
--- The board that the tally keeps: it is possible, runs the tally's month, and becomes the tally's next board. Assumes nothing.
+-- The board that the tally keeps: it is possible, runs the tally's month, and becomes the tally's next board; and a possible board is that of the tally that begins from it. Assumes nothing.
 use mathlib.Core.Path.{_≡_, refl, sym, ap, _∙_}
-use mathlib.Core.Bool.{true}
+use mathlib.Core.Bool.{Bool, true, false}
 use mathlib.Core.List.{List, [], _∷_, _++_}
-use Prim.Native.Nat.{ℕ, suc, _+_, _-_, _<_}
+use Prim.Native.Nat.{ℕ, zero, suc, _+_, _-_, _*_, _/_, _≤_, _<_}
 use native.Mathlib.Omega.{arith}
 use native.Mathlib.Decide.{decLt}
 use lib.Dec.{ltb}
+use lib.ListN.{length, getD, List·getD-eq-default}
 use Rattle.general.specs.Sums.{only}
-use Rattle.general.proofs.Tests.{ltb-yes, ltb-no}
-use Rattle.general.proofs.Tables.{tab-same}
-use Rattle.rules.specs.Basin.{Basin, rows}
+use Rattle.general.specs.Tables.{tab}
+use Rattle.general.proofs.Tests.{ltb-yes, ltb-no, only-le, eqb-other}
+use Rattle.general.proofs.Tables.{tab-length, tab-at, tab-past, tab-same}
+use Rattle.rules.specs.Basin.{Basin, rows, reservoirAt, rightAt}
+use Rattle.rules.specs.Turn.{bit}
 use Rattle.rules.specs.Month.{MonthRun, month}
-use Rattle.rules.specs.Tally.{Call, Tally, fresh, pending, pendingFrom, arriving, nextRun, accept}
+use Rattle.rules.specs.Tally.{Call, Tally, freshCarried, freshStart, begun, pending, arriving, nextRun, accept, standing}
 use Rattle.rules.specs.Accepted.{Accepted}
-use Rattle.rules.specs.Theorems.{Possible}
-use Rattle.rules.proofs.Bounds.{capped-of}
-use Rattle.rules.proofs.Pending.{pending-on, pending-ends}
-use Rattle.boards.specs.Board.{dueAt, boardOf, possible}
+use Rattle.rules.specs.Theorems.{mostDue, Possible}
+use Rattle.rules.proofs.Bounds.{capped-of, fresh-possible}
+use Rattle.rules.proofs.Pending.{pending-on, pending-ends, pending-begins}
+use Rattle.boards.specs.Board.{storageAt, marksAt, takenAt, dueAt, carriedOf, placeOf, boardOf, possible}
 use Rattle.boards.specs.Calls.{freshBoard, runOf, dueAfter, boardAfter}
-use Rattle.ledger.specs.Demand3.{tallyBoard}
-use Rattle.boards.proofs.Bounds.{board-possible}
-use Rattle.boards.proofs.Board.{Counted, due-of-row, read-back, board-same}
+use Rattle.ledger.specs.Demand3.{startOf, tallyBoard}
+use Rattle.boards.proofs.Bounds as held
+use Rattle.boards.proofs.Board.{Counted, board-length, due-of-row, read-back, board-same}
+use Rattle.monthrun.proofs.Closing.{board-by-parts, word-bits}
 
-written : (b : Basin) (t : Tally) → boardOf b (t .carried) (pending b (t .months)) ≡ tallyBoard b t
+written : (b : Basin) (t : Tally) → boardOf b (t .carried) (pending b (t .start) (t .months)) ≡ tallyBoard b t
 unfolding tallyBoard
 written b t = refl
 
-module _ (b : Basin) (acc : Accepted b) (t : Tally) (p : Possible b t) where
+module _ (b : Basin) (acc : Accepted b) (t : Tally) (p : Possible b (standing b t)) where
+  abbrev owed : ℕ → ℕ → ℕ
+  owed = pending b (t .start) (t .months)
+
   counted : Counted b (t .carried)
+  unfolding standing
   counted = record { storages = p .storages-count; marks = p .marks-count; taken = p .taken-count }
 
   -- ---- possible
 
   pub tally-possible : possible b (tallyBoard b t) ≡ true
-  unfolding tallyBoard
-  tally-possible = board-possible b (t .carried) (pending b (t .months)) (p .month-in-year) (capped-of b t p) (λ w k h l. p .due-most w (suc k) (omega arith))
+  unfolding tallyBoard standing
+  tally-possible = held.board-possible b (t .carried) owed (p .month-in-year) (capped-of b (standing b t) p) (λ w k h l. p .due-most w (suc k) (omega arith) (omega arith))
 
   -- ---- the month that it runs
 
   pub tally-run : (runoff : List ℕ) (n : ℕ) → runOf b runoff (tallyBoard b t) ≡ nextRun b t (record { runoff = runoff; report = n })
   unfolding runOf nextRun tallyBoard arriving
-  tally-run runoff n = λ z. month b (read-back b acc (t .carried) (pending b (t .months)) counted z) runoff
-      (tab-same (rows b) (λ w. dueAt (boardOf b (t .carried) (pending b (t .months))) w 1) (λ w. pending b (t .months) w 1)
-      (λ w h. due-of-row b (t .carried) (pending b (t .months)) w 0 h (acc .few-rows) (omega arith)) z)
+  tally-run runoff n = λ z. month b (read-back b acc (t .carried) owed counted z) runoff
+      (tab-same (rows b) (λ w. dueAt (boardOf b (t .carried) owed) w 1) (λ w. owed w 1)
+      (λ w h. due-of-row b (t .carried) owed w 0 h (acc .few-rows) (omega arith)) z)
 
   -- ---- the board that it leaves
 
-  due-on : (h : MonthRun) (w k : ℕ) → w < rows b → k < 11 → dueAfter b h (tallyBoard b t) w (suc k) ≡ pending b (t .months ++ (h ∷ [])) w (suc k)
+  due-on : (h : MonthRun) (w k : ℕ) → w < rows b → k < 11 → dueAfter b h (tallyBoard b t) w (suc k) ≡ pending b (t .start) (t .months ++ (h ∷ [])) w (suc k)
   unfolding dueAfter tallyBoard
-  due-on h w k l m = omega (arith, pending-on b h w (t .months) (suc k) (omega arith), moved (decLt (suc k) 11))
+  due-on h w k l m = omega (arith, pending-on b (t .start) h w (t .months) (suc k) (omega arith), moved (decLt (suc k) 11))
     where
       board : List ℕ
-      board = boardOf b (t .carried) (pending b (t .months))
+      board = boardOf b (t .carried) owed
 
-      moved : Dec (suc k < 11) → only (ltb (suc k) 11) (dueAt board w (suc (suc k))) ≡ pending b (t .months) w (suc (suc k))
-      moved (yes q) = rw (ltb-yes (suc k) 11 q) (due-of-row b (t .carried) (pending b (t .months)) w (suc k) l (acc .few-rows) q)
-      moved (no q) = rw (ltb-no (suc k) 11 (omega arith)) (sym (pending-ends b (t .months) w (suc (suc k)) (omega arith)))
+      moved : Dec (suc k < 11) → only (ltb (suc k) 11) (dueAt board w (suc (suc k))) ≡ owed w (suc (suc k))
+      moved (yes q) = rw (ltb-yes (suc k) 11 q) (due-of-row b (t .carried) owed w (suc k) l (acc .few-rows) q)
+      moved (no q) = rw (ltb-no (suc k) 11 (omega arith)) (sym (pending-ends b (t .start) (t .months) w (suc (suc k)) (omega arith)))
 
   pub tally-next : (c : Call) → boardAfter b (c .runoff) (tallyBoard b t) ≡ tallyBoard b (accept b t c)
   unfolding boardAfter accept
   tally-next c =
       let h : MonthRun = nextRun b t c in
       ap (λ (x : MonthRun). boardOf b (x .carried) (dueAfter b x (tallyBoard b t))) (tally-run (c .runoff) (c .report))
-      ∙ board-same b (h .carried) (dueAfter b h (tallyBoard b t)) (pending b (t .months ++ (h ∷ []))) (λ w k l m. due-on h w k l m)
-      ∙ written b (record { carried = h .carried; months = t .months ++ (h ∷ []) })
+      ∙ board-same b (h .carried) (dueAfter b h (tallyBoard b t)) (pending b (t .start) (t .months ++ (h ∷ []))) (λ w k l m. due-on h w k l m)
+      ∙ written b (record { start = t .start; carried = h .carried; months = t .months ++ (h ∷ []) })
 
--- ---- the fresh board is the tally's
+-- ---- a board that is possible is the board of the tally that begins from it
 
-pub tally-fresh : (b : Basin) → freshBoard b ≡ tallyBoard b (fresh b)
-unfolding freshBoard tallyBoard fresh pending pendingFrom
-tally-fresh b = refl
+-- read past its end a table that keeps within bounds keeps within them
+tab-within : (n : ℕ) (f most : ℕ → ℕ) → ((i : ℕ) → i < n → f i ≤ most i) → (i : ℕ) → getD (tab n f) i 0 ≤ most i
+tab-within n f most h i = pick (decLt i n)
+  where
+    pick : Dec (i < n) → getD (tab n f) i 0 ≤ most i
+    pick (yes l) = omega (arith, tab-at f n i 0 l, h i l)
+    pick (no l) = omega (arith, tab-past f n i 0 (omega arith))
+
+module _ (b : Basin) (acc : Accepted b) (l : List ℕ) (size : length l ≡ 970) (can : possible b l ≡ true) where
+  due-within : (w k : ℕ) → k < 11 → dueAt l w (suc k) ≤ mostDue (suc k)
+  due-within w k h = pick (decLt w 64)
+    where
+      pick : Dec (w < 64) → dueAt l w (suc k) ≤ mostDue (suc k)
+      pick (yes m) = omega (arith, held.due-most b l can w k m h, only-le (ltb w (rows b)) (mostDue (suc k)))
+      pick (no m) = omega (arith, List·getD-eq-default l 0 {n = 266 + 11 * w + (suc k - 1)} (omega (arith, size)))
+
+  pub start-possible : Possible b (startOf b l)
+  unfolding startOf carriedOf
+  start-possible = record {
+    month-in-year = held.month-most b l can;
+    storages-count = tab-length (storageAt l) (length (b .reservoirs));
+    storages-most = tab-within (length (b .reservoirs)) (storageAt l) (λ v. (reservoirAt b v) .capacity) (λ v h. held.storage-most b l can v (omega (arith, acc .few-reservoirs)));
+    marks-count = tab-length (bit (marksAt l)) (length (b .reservoirs));
+    taken-count = tab-length (takenAt l) (length (b .rights));
+    taken-most = tab-within (length (b .rights)) (takenAt l) (λ i. (rightAt b i) .limit) (λ i h. held.taken-most b l can i (omega (arith, acc .few-rights)));
+    due-most = due;
+  }
+    where
+      due : (w k : ℕ) → 1 ≤ k → k < 12 → dueAt l w k ≤ mostDue k
+      due w zero h m = absurd (omega arith)
+      due w (suc k) h m = due-within w k (omega arith)
+
+  -- read and written again, it is the same
+  entry : (n m : ℕ) (f : ℕ → ℕ) → ((i : ℕ) → i < m → n ≤ i → f i ≡ 0) → (i : ℕ) → i < m → f i ≡ getD (tab n f) i 0
+  entry n m f none i h = pick (decLt i n)
+    where
+      pick : Dec (i < n) → f i ≡ getD (tab n f) i 0
+      pick (yes k) = sym (tab-at f n i 0 k)
+      pick (no k) = none i h (omega arith) ∙ sym (tab-past f n i 0 (omega arith))
+
+  due-entry : (w k : ℕ) → w < 64 → k < 11 → dueAt l w (suc k) ≡ only (ltb w (rows b)) (dueAt l w (suc k))
+  due-entry w k h m = pick (decLt w (rows b))
+    where
+      pick : Dec (w < rows b) → dueAt l w (suc k) ≡ only (ltb w (rows b)) (dueAt l w (suc k))
+      pick (yes o) = rw (ltb-yes w (rows b) o)
+      pick (no o) = rw (ltb-no w (rows b) (omega arith)) (held.no-due b l can w k h m (omega arith))
+
+  written-back : l ≡ boardOf b (carriedOf b l) (dueAt l)
+  unfolding carriedOf
+  written-back = board-by-parts b (carriedOf b l) (dueAt l) l size refl
+      (entry (length (b .reservoirs)) 8 (storageAt l) (λ v h o. held.no-storage b l can v h o))
+      (sym (word-bits (length (b .reservoirs)) (marksAt l) (held.marks-most b l can)))
+      (entry (length (b .rights)) 256 (takenAt l) (λ i h o. held.no-taken b l can i h o))
+      due-entry
+
+  pub tally-begins : l ≡ tallyBoard b (begun (startOf b l))
+  unfolding tallyBoard begun startOf
+  tally-begins = written-back ∙ board-same b (carriedOf b l) (dueAt l) (pending b (startOf b l) []) (λ w k h m. sym (pending-begins b (startOf b l) w (suc k) (omega arith)))
+
+-- ---- the fresh board
+
+only-none : (t : Bool) → only t 0 ≡ 0
+only-none true = refl
+only-none false = refl
+
+module _ (b : Basin) (acc : Accepted b) where
+  fresh-due : (p : ℕ) → 266 ≤ p → getD (freshBoard b) p 0 ≡ 0
+  unfolding freshBoard boardOf placeOf
+  fresh-due p h = pick (decLt p 970)
+    where
+      pick : Dec (p < 970) → getD (tab 970 (placeOf b (freshCarried b) (λ w k. 0))) p 0 ≡ 0
+      pick (yes l) = tab-at (placeOf b (freshCarried b) (λ w k. 0)) 970 p 0 l
+          ∙ rw (eqb-other p 0 (omega arith), ltb-no p 9 (omega arith), eqb-other p 9 (omega arith), ltb-no p 266 h) (only-none (ltb ((p - 266) / 11) (rows b)))
+      pick (no l) = tab-past (placeOf b (freshCarried b) (λ w k. 0)) 970 p 0 (omega arith)
+
+  fresh-counted : Counted b (freshCarried b)
+  unfolding freshStart
+  fresh-counted = let p : Possible b (freshStart b) = fresh-possible b acc in record { storages = p .storages-count; marks = p .marks-count; taken = p .taken-count }
+
+  pub fresh-size : length (freshBoard b) ≡ 970
+  unfolding freshBoard
+  fresh-size = board-length b (freshCarried b) (λ w k. 0)
+
+  pub fresh-can : possible b (freshBoard b) ≡ true
+  unfolding freshBoard freshStart
+  fresh-can = held.board-possible b (freshCarried b) (λ w k. 0) (fresh-possible b acc .month-in-year) (capped-of b (freshStart b) (fresh-possible b acc)) (λ w k h l. omega arith)
+
+  fresh-carried : carriedOf b (freshBoard b) ≡ freshCarried b
+  unfolding freshBoard
+  fresh-carried = read-back b acc (freshCarried b) (λ w k. 0) fresh-counted
+
+  pub fresh-starts : startOf b (freshBoard b) ≡ freshStart b
+  unfolding startOf freshStart
+  fresh-starts = λ z. record { carried = fresh-carried z; due = λ w k. fresh-due (266 + 11 * w + (k - 1)) (omega arith) z }

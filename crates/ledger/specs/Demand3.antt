@@ -1,4 +1,4 @@
--- Demand 3, as one claim about any list of month calls on one file. It cites only definitions; proofs/Demand3.antt proves it.
+-- Demand 3, as one claim about any list of month calls on one file, from any board that is possible for it. It cites only definitions; proofs/Demand3.antt proves it.
 use mathlib.Core.Path.{_≡_}
 use mathlib.Core.Bool.{true}
 use mathlib.Core.List.{List, [], _∷_, map}
@@ -10,14 +10,14 @@ use Rattle.general.specs.Tests.{has}
 use Rattle.rules.specs.Basin.{Basin, rows}
 use Rattle.rules.specs.River.{flowAt, availableAt}
 use Rattle.rules.specs.Month.{MonthRun, reasonNumber}
-use Rattle.rules.specs.Tally.{Call, Answer, reportLength, refusal, Tally, fresh, pending, nextRun, afterCall, afterCalls, answerOf}
-use Rattle.rules.specs.Water.{WaterKept}
+use Rattle.rules.specs.Tally.{Call, Answer, reportLength, refusal, Start, freshStart, Tally, begun, pending, nextRun, afterCall, afterCalls, answerOf}
+use Rattle.rules.specs.Water.{MonthSound, WaterKept}
 use Rattle.basin.specs.declared.Verdict.the-variants.{Accepted}
 use Rattle.records.specs.Records.{basinOf}
 use Rattle.basin.specs.Check.{checkOf}
-use Rattle.boards.specs.Board.{boardOf}
+use Rattle.boards.specs.Board.{dueAt, carriedOf, boardOf, possible}
 use Rattle.boards.specs.Report.{grantAt, rowsFrom, reservoirsFrom, nameIn}
-use Rattle.boards.specs.Calls.{freshOf, Outcome, MonthMeets}
+use Rattle.boards.specs.Calls.{freshOf, runOf, Outcome, MonthMeets}
 
 -- ---- a list of calls
 
@@ -58,9 +58,15 @@ abbrev pub ReportOk : Option Answer → Basin → Tally → Event → Type 0
 ReportOk none b t e = Tells b (nextRun b t (callOf e)) (e .report) ((e .outcome) .report)
 ReportOk (some a) b t e = (e .outcome) .report ≡ e .report
 
+-- ---- boards and the tally
+
+-- what a board starts a list of calls from: m, storages, marks, taken, and its dues
+unfoldable pub startOf : Basin → List ℕ → Start
+startOf b l = record { carried = carriedOf b l; due = dueAt l }
+
 -- the board that the tally keeps: m, storages, marks, taken, and pending at each row and k
 unfoldable pub tallyBoard : Basin → Tally → List ℕ
-tallyBoard b t = boardOf b (t .carried) (pending b (t .months))
+tallyBoard b t = boardOf b (t .carried) (pending b (t .start) (t .months))
 
 -- ---- call for call
 
@@ -75,18 +81,35 @@ AllFollow b t (e ∷ es) = Follows b t e × AllFollow b (afterCall b t (callOf e
 
 -- ---- the claim
 
-pub record Demand3 (f : List ℕ) (es : List Event) : Type 0 where
+-- from a start
+pub record Demand3 (f : List ℕ) (s : Start) (es : List Event) : Type 0 where
   -- "all answers, grants, flows, open water and evaporation are those of 01's tally; the board holds the tally's pending returns and storages"
-  pub follows : AllFollow (basinOf f) (fresh (basinOf f)) es
-  -- "runoff of the accepted months + starting storage = outflow + consumption + evaporation + returns on their way + storage now";
+  pub follows : AllFollow (basinOf f) (begun s) es
+  -- "runoff of the accepted months + starting storage = outflow + consumption + evaporation + returns on their way + storage now", the start's storage and dues for starting storage;
   -- each reservoir's storage now; "flow never below zero nor below open water" at every checkpoint
-  pub water : WaterKept (basinOf f) (afterCalls (basinOf f) (fresh (basinOf f)) (map callOf es))
+  pub water : WaterKept (basinOf f) (afterCalls (basinOf f) (begun s) (map callOf es))
 
--- for every file that the check accepts and every list of calls from the fresh board, accepted and refused in any mix
+-- for every file that the check accepts, every board that is possible for it and every list of calls from that board, accepted and refused in any mix
 abbrev pub Claim : Type 0
-Claim = (f board : List ℕ) → checkOf f ≡ Accepted → length board ≡ 970 → (es : List Event) → Run f ((freshOf f board) .board) es → Demand3 f es
+Claim = (f board : List ℕ) → checkOf f ≡ Accepted → length board ≡ 970 → possible (basinOf f) board ≡ true → (es : List Event) → Run f board es → Demand3 f (startOf (basinOf f) board) es
 
--- The claim is not empty: for every list of runoffs and reports there is a list of calls that meets the contract.
+-- The board that fresh leaves is such a board, and what it starts from is the fresh start.
+pub record FreshBoard (f board : List ℕ) : Type 0 where
+  pub size : length ((freshOf f board) .board) ≡ 970
+  pub is-possible : possible (basinOf f) ((freshOf f board) .board) ≡ true
+  pub starts : startOf (basinOf f) ((freshOf f board) .board) ≡ freshStart (basinOf f)
+
+abbrev pub FreshStarts : Type 0
+FreshStarts = (f board : List ℕ) → checkOf f ≡ Accepted → length board ≡ 970 → FreshBoard f board
+
+-- so that the claim holds from the fresh board, with the starting storages
+abbrev pub FromFresh : Type 0
+FromFresh = (f board : List ℕ) → checkOf f ≡ Accepted → length board ≡ 970 → (es : List Event) → Run f ((freshOf f board) .board) es → Demand3 f (freshStart (basinOf f)) es
+
+-- The checkpoints of the month that any possible board runs.
+abbrev pub Checkpoints : Type 0
+Checkpoints = (f board runoff : List ℕ) → checkOf f ≡ Accepted → length board ≡ 970 → possible (basinOf f) board ≡ true → MonthSound (basinOf f) (runOf (basinOf f) runoff board)
+
+-- The claim is not empty: from every board, for every list of runoffs and reports, there is a list of calls that meets the contract.
 abbrev pub NotEmpty : Type 0
-NotEmpty = (f board : List ℕ) → checkOf f ≡ Accepted → length board ≡ 970 → (cs : List (List ℕ × List ℕ))
-    → (es : List Event) × (map (λ (e : Event). (e .runoff, e .report)) es ≡ cs) × Run f ((freshOf f board) .board) es
+NotEmpty = (f board : List ℕ) → checkOf f ≡ Accepted → (cs : List (List ℕ × List ℕ)) → (es : List Event) × (map (λ (e : Event). (e .runoff, e .report)) es ≡ cs) × Run f board es

@@ -8,8 +8,6 @@ use lib.ListN.{length, getD, take}
 use Rattle.general.proofs.Tables.{tab-length, tab-at}
 use Rattle.rules.specs.Accepted.{Accepted}
 use Rattle.rules.specs.Basin.{Basin}
-use Rattle.rules.specs.Tally.{fresh}
-use Rattle.rules.proofs.Bounds.{fresh-possible}
 use Rattle.basin.specs.declared.Verdict.the-variants as verdict
 use Rattle.layout.specs.Bytes.{le32At}
 use Rattle.basin.specs.Check.{checkOf}
@@ -25,7 +23,7 @@ use Rattle.steps.specs.Steps.{CanGoOn, WentOn}
 use Rattle.boards.proofs.Bodies.{basin-bodies, bodies-rows, bodies-reservoirs, bodies-rights, start-length, fresh-here}
 use Rattle.boards.proofs.Bounds.{bounded}
 use Rattle.monthrun.proofs.Going.{still-possible, losses-told}
-use Rattle.ledger.proofs.Tally.{tally-possible, tally-fresh}
+use Rattle.ledger.proofs.Tally.{fresh-can}
 use Rattle.riverrun.specs.Sheets.{sheetOf, Lent, CanPrint}
 
 -- ---- a sheet
@@ -99,8 +97,7 @@ module _ (f : List ℕ) (acc : checkOf f ≡ verdict.Accepted) where
 
   start-possible : possible (basinOf f) (startBoard (sectionOf f 1)) ≡ true
   start-possible =
-      ap (possible (basinOf f)) (fresh-here f (startBoard (sectionOf f 1)) acc (start-length (sectionOf f 1)) ∙ tally-fresh (basinOf f))
-      ∙ tally-possible (basinOf f) (accepted-facts f acc) (fresh (basinOf f)) (fresh-possible (basinOf f) (accepted-facts f acc))
+      ap (possible (basinOf f)) (fresh-here f (startBoard (sectionOf f 1)) acc (start-length (sectionOf f 1))) ∙ fresh-can (basinOf f) (accepted-facts f acc)
 
   pub lent-first : (st rs ps ri sheet runoff bd rp out : List ℕ) → st ≡ sectionOf f 0 → rs ≡ sectionOf f 1 → ps ≡ sectionOf f 2 → ri ≡ sectionOf f 3
       → length sheet ≡ 4 * rowsOf st → length runoff ≡ rowsOf st → bd ≡ startBoard rs → length rp ≡ 1160 → 40000 ≤ length out → Lent st rs ps ri sheet runoff bd rp out

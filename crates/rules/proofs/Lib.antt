@@ -5,6 +5,7 @@ pub mod Stages
 pub mod Months
 pub mod Reservoirs
 pub mod Pending
+pub mod Resumed
 pub mod Sums
 pub mod Bounds
 pub mod Names

@@ -11,12 +11,12 @@ use Rattle.rules.specs.River.{diverted, reserved, released, returned, al
 use Rattle.rules.specs.Returns.{consumption, returning, sharesFrom, shares, partsAt, partsOf, lagged, returnNow, returnedAt}
 use Rattle.rules.specs.Turn.{bit, scheduled, demand, anyOn, called, divertible, riverPart, withLevels, afterDiversion, riverStage, storagePart, storageStage, returnStage, shortage, reasonOf, keepIf, lowestOn, lowRows, numberAt, controlling, turn}
 use Rattle.rules.specs.Month.{gathered, openingLevels, opening, turns, afterTurns, consumedBy, returnedBy, returnsAt, areaFrom, areaAt, evaporation, evaporations, evaporated, nextMonth, month, reasonNumber, isShort, shortCount}
-use Rattle.rules.specs.Tally.{listsFit, overLimit, overAnswer, judged, refusal, freshCarried, fresh, pendingFrom, pending, arriving, nextRun, accept, afterJudged, afterCall, afterCalls, answerJudged, answerOf, answers}
-use Rattle.rules.specs.Water.{totalOutflow, totalConsumption, inTransit}
+use Rattle.rules.specs.Tally.{listsFit, overLimit, overAnswer, judged, refusal, freshCarried, freshStart, begun, stillDue, pendingFrom, pending, arriving, nextRun, accept, afterJudged, afterCall, afterCalls, answerJudged, answerOf, answers}
+use Rattle.rules.specs.Water.{totalRunoff, totalOutflow, totalConsumption, totalEvaporation, inTransit, startingStorage, startingDues}
 use Rattle.rules.specs.Marked.{Computed}
 
 pub computed : Computed
-unfolding sumOver sumOverℤ sumTo tab _and_ has firstAt follow carriesOn rowBelow path untilRow diverted reserved released returned along lowest lesser consumption returning sharesFrom shares partsAt partsOf lagged returnNow returnedAt bit scheduled demand anyOn called divertible riverPart withLevels afterDiversion riverStage storagePart storageStage returnStage shortage reasonOf keepIf lowestOn lowRows numberAt controlling turn gathered openingLevels opening turns afterTurns consumedBy returnedBy returnsAt areaFrom areaAt evaporation evaporations evaporated nextMonth month reasonNumber isShort shortCount listsFit overLimit overAnswer judged refusal freshCarried fresh pendingFrom pending arriving nextRun accept afterJudged afterCall afterCalls answerJudged answerOf answers totalOutflow totalConsumption inTransit
+unfolding sumOver sumOverℤ sumTo tab _and_ has firstAt follow carriesOn rowBelow path untilRow diverted reserved released returned along lowest lesser consumption returning sharesFrom shares partsAt partsOf lagged returnNow returnedAt bit scheduled demand anyOn called divertible riverPart withLevels afterDiversion riverStage storagePart storageStage returnStage shortage reasonOf keepIf lowestOn lowRows numberAt controlling turn gathered openingLevels opening turns afterTurns consumedBy returnedBy returnsAt areaFrom areaAt evaporation evaporations evaporated nextMonth month reasonNumber isShort shortCount listsFit overLimit overAnswer judged refusal freshCarried freshStart begun stillDue pendingFrom pending arriving nextRun accept afterJudged afterCall afterCalls answerJudged answerOf answers totalRunoff totalOutflow totalConsumption totalEvaporation inTransit startingStorage startingDues
 computed = record {
   marked = record {
     october-answer = refl;
@@ -48,6 +48,11 @@ computed = record {
     filled-mark = refl;
     october-clears-marks = refl;
     october-clears-taken = refl;
+    started-flow = refl;
+    started-pending = refl;
+    started-sum = refl;
+    started-evaporation = refl;
+    started-month = refl;
     refusals = refl;
   };
 }

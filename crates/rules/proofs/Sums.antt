@@ -5,25 +5,25 @@ use mathlib.Core.List.{List, [], _∷_, _++_}
 use mathlib.Core.Option.{Option, none, some}
 use Prim.Native.Nat.{ℕ, _+_, _-_}
 use native.Mathlib.Omega.{arith}
-use lib.ListN.{length, getD, length-map, List·getD-map}
+use lib.ListN.{length, getD}
 use lib.IntN.{ℤ, pos, _+ℤ_, _-ℤ_}
 use Rattle.general.specs.Sums.{sumOver, sumOverℤ, sum}
 use Rattle.general.specs.Tables.{All}
 use Rattle.general.proofs.Signed.{up, dn, add-law, eq-make, lower-law}
 use Rattle.general.proofs.Tests.{eq-of, both-of}
 use Rattle.general.proofs.Lists.{all-append}
-use Rattle.general.proofs.Sums.{sum-append, sumℤ-append, sum-map, sumTo-add, sumTo-list, sumToℤ-pos}
-use Rattle.rules.specs.Basin.{Reservoir, Basin, noReservoir, rows, reservoirAt}
+use Rattle.general.proofs.Sums.{sum-append, sumℤ-append, sumTo-add, sumTo-list, sumToℤ-pos}
+use Rattle.rules.specs.Basin.{Basin, rows}
 use Rattle.rules.specs.Path.{lastRow}
 use Rattle.rules.specs.River.{flowAt}
 use Rattle.rules.specs.Month.{consumedBy, MonthRun, month}
-use Rattle.rules.specs.Tally.{Call, Answer, listsFit, judged, refusal, Tally, freshCarried, fresh, arriving, nextRun, accept, afterJudged, afterCall, afterCalls}
-use Rattle.rules.specs.Water.{totalRunoff, totalOutflow, totalConsumption, totalEvaporation, inTransit, startingStorage, storedIn, drawnFrom, totalStored, totalDrawn, totalLost, storageNow, allStorageNow, MonthSound, WaterKept}
+use Rattle.rules.specs.Tally.{Call, Answer, listsFit, judged, refusal, Start, Tally, begun, arriving, nextRun, accept, afterJudged, afterCall, afterCalls}
+use Rattle.rules.specs.Water.{totalRunoff, totalOutflow, totalConsumption, totalEvaporation, inTransit, startingStorage, startingDues, storedIn, drawnFrom, totalStored, totalDrawn, totalLost, storageNow, allStorageNow, MonthSound, WaterKept}
 use Rattle.rules.specs.Accepted.{Accepted}
 use Rattle.rules.proofs.Stages.{outflow}
 use Rattle.rules.proofs.Months.{MonthOk, month-ok}
 use Rattle.rules.proofs.Reservoirs.{month-entry}
-use Rattle.rules.proofs.Pending.{transit-on, transit-none, arriving-sum}
+use Rattle.rules.proofs.Pending.{transit-on, transit-begins, arriving-sum}
 
 -- an accepted call has one runoff number to a row
 pub judged-none : (t : Bool) (runoff : List ℕ) → judged t runoff ≡ none → t ≡ true
@@ -39,18 +39,18 @@ accepted-length b c e = eq-of (both-of (judged-none _ (c .runoff) e) .0)
 
 pub record TallyOk (b : Basin) (t : Tally) : Type 0 where
   pub count : length ((t .carried) .storages) ≡ length (b .reservoirs)
-  pub balance : up (totalOutflow b (t .months)) + totalConsumption (t .months) + totalEvaporation (t .months) + inTransit b (t .months) + sum ((t .carried) .storages)
-      ≡ dn (totalOutflow b (t .months)) + totalRunoff (t .months) + startingStorage b
+  pub balance : up (totalOutflow b (t .months)) + totalConsumption (t .months) + totalEvaporation (t .months) + inTransit b (t .start) (t .months) + sum ((t .carried) .storages)
+      ≡ dn (totalOutflow b (t .months)) + totalRunoff (t .months) + (startingStorage (t .start) + startingDues b (t .start))
   pub checkpoints : All (MonthSound b) (t .months)
-  pub entries : (v : ℕ) → getD ((t .carried) .storages) v 0 + totalDrawn v (t .months) + totalLost v (t .months) ≡ (reservoirAt b v) .start + totalStored v (t .months)
+  pub entries : (v : ℕ) → getD ((t .carried) .storages) v 0 + totalDrawn v (t .months) + totalLost v (t .months) ≡ getD (((t .start) .carried) .storages) v 0 + totalStored v (t .months)
 
-pub fresh-ok : (b : Basin) → TallyOk b (fresh b)
-unfolding fresh freshCarried totalOutflow totalConsumption totalEvaporation totalRunoff startingStorage totalStored totalDrawn totalLost sumOver sumOverℤ
-fresh-ok b = record {
-  count = length-map (b .reservoirs) _;
-  balance = omega (arith, transit-none b, sum-map (λ (v : Reservoir). v .start) (b .reservoirs));
+pub begun-ok : (b : Basin) (s : Start) → length ((s .carried) .storages) ≡ length (b .reservoirs) → TallyOk b (begun s)
+unfolding begun totalOutflow totalConsumption totalEvaporation totalRunoff startingStorage totalStored totalDrawn totalLost sumOver sumOverℤ
+begun-ok b s n = record {
+  count = n;
+  balance = omega (arith, transit-begins b s);
   checkpoints = tt;
-  entries = λ v. omega (arith, List·getD-map (λ (x : Reservoir). x .start) (b .reservoirs) v noReservoir);
+  entries = λ v. omega arith;
 }
 
 module _ (b : Basin) (hs : List MonthRun) (h : MonthRun) where
@@ -90,8 +90,9 @@ accept-ok : (b : Basin) → Accepted b → (t : Tally) (c : Call) → length (c 
 unfolding accept nextRun
 accept-ok b acc t c n o =
     let hs : List MonthRun = t .months in
-    let h : MonthRun = month b (t .carried) (c .runoff) (arriving b hs) in
-    let k : MonthOk b (t .carried) (c .runoff) (arriving b hs) h = month-ok b acc (t .carried) (o .count) (c .runoff) (arriving b hs) in
+    let due : List ℕ = arriving b (t .start) hs in
+    let h : MonthRun = month b (t .carried) (c .runoff) due in
+    let k : MonthOk b (t .carried) (c .runoff) due h = month-ok b acc (t .carried) (o .count) (c .runoff) due in
     record {
       count = k .storages;
       balance = omega (
@@ -103,13 +104,13 @@ accept-ok b acc t c n o =
         evaporation-on b hs h,
         consumption-on b hs h,
         outflow-on b hs h,
-        transit-on b hs h,
+        transit-on b (t .start) hs h,
         rw n at (sumTo-list (c .runoff)),
-        arriving-sum b hs,
-        sumTo-add (rows b) (λ j. getD (c .runoff) j 0) (λ j. getD (arriving b hs) j 0),
+        arriving-sum b (t .start) hs,
+        sumTo-add (rows b) (λ j. getD (c .runoff) j 0) (λ j. getD due j 0),
       );
       checkpoints = all-append (MonthSound b) hs h (o .checkpoints) (k .sound);
-      entries = λ v. omega (arith, o .entries v, stored-on b hs h v, drawn-on b hs h v, lost-on b hs h v, month-entry b acc (t .carried) (o .count) (c .runoff) (arriving b hs) v);
+      entries = λ v. omega (arith, o .entries v, stored-on b hs h v, drawn-on b hs h v, lost-on b hs h v, month-entry b acc (t .carried) (o .count) (c .runoff) due v);
     }
 
 pub call-ok : (b : Basin) → Accepted b → (t : Tally) (c : Call) → TallyOk b t → TallyOk b (afterCall b t c)
@@ -125,29 +126,43 @@ unfolding afterCalls
 calls-ok b acc t [] o = o
 calls-ok b acc t (c ∷ cs) o = calls-ok b acc (afterCall b t c) cs (call-ok b acc t c o)
 
+-- the start stays
+call-start : (b : Basin) (t : Tally) (c : Call) → (afterCall b t c) .start ≡ t .start
+unfolding afterCall afterJudged accept
+call-start b t c = go (refusal b c)
+  where
+    go : (v : Option Answer) → (afterJudged v b t c) .start ≡ t .start
+    go none = refl
+    go (some a) = refl
+
+pub calls-start : (b : Basin) (t : Tally) (cs : List Call) → (afterCalls b t cs) .start ≡ t .start
+unfolding afterCalls
+calls-start b t [] = refl
+calls-start b t (c ∷ cs) = calls-start b (afterCall b t c) cs ∙ call-start b t c
+
 -- ---- the claim
 
 module _ (b : Basin) (t : Tally) (o : TallyOk b t) where
   -- the storage by the grants is the storage kept
-  storage-kept : (v : ℕ) → storageNow b (t .months) v ≡ pos (getD ((t .carried) .storages) v 0)
+  storage-kept : (v : ℕ) → storageNow (t .start) (t .months) v ≡ pos (getD ((t .carried) .storages) v 0)
   unfolding storageNow
   storage-kept v =
-      let x : ℤ = pos ((reservoirAt b v) .start + totalStored v (t .months)) in
+      let x : ℤ = pos (getD (((t .start) .carried) .storages) v 0 + totalStored v (t .months)) in
       eq-make (omega (arith, o .entries v, lower-law x (totalDrawn v (t .months)), lower-law (x -ℤ pos (totalDrawn v (t .months))) (totalLost v (t .months))))
 
-  storages-kept : allStorageNow b (t .months) ≡ pos (sum ((t .carried) .storages))
+  storages-kept : allStorageNow b (t .start) (t .months) ≡ pos (sum ((t .carried) .storages))
   unfolding allStorageNow
   storages-kept =
-      sumToℤ-pos (length (b .reservoirs)) (storageNow b (t .months)) (λ v. getD ((t .carried) .storages) v 0) storage-kept
+      sumToℤ-pos (length (b .reservoirs)) (storageNow (t .start) (t .months)) (λ v. getD ((t .carried) .storages) v 0) storage-kept
       ∙ ap pos (rw (o .count) at (sumTo-list ((t .carried) .storages)))
 
-  balance-kept : pos (totalRunoff (t .months) + startingStorage b)
-      ≡ totalOutflow b (t .months) +ℤ pos (totalConsumption (t .months)) +ℤ pos (totalEvaporation (t .months)) +ℤ pos (inTransit b (t .months)) +ℤ pos (sum ((t .carried) .storages))
+  balance-kept : pos (totalRunoff (t .months) + (startingStorage (t .start) + startingDues b (t .start)))
+      ≡ totalOutflow b (t .months) +ℤ pos (totalConsumption (t .months)) +ℤ pos (totalEvaporation (t .months)) +ℤ pos (inTransit b (t .start) (t .months)) +ℤ pos (sum ((t .carried) .storages))
   balance-kept =
       let x : ℤ = totalOutflow b (t .months) in
       let c : ℤ = pos (totalConsumption (t .months)) in
       let e : ℤ = pos (totalEvaporation (t .months)) in
-      let i : ℤ = pos (inTransit b (t .months)) in
+      let i : ℤ = pos (inTransit b (t .start) (t .months)) in
       eq-make (omega (arith, o .balance, add-law x c, add-law (x +ℤ c) e, add-law (x +ℤ c +ℤ e) i, add-law (x +ℤ c +ℤ e +ℤ i) (pos (sum ((t .carried) .storages)))))
 
   pub water-kept : WaterKept b t

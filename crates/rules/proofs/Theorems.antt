@@ -1,15 +1,19 @@
 -- The theorems of specs/Theorems.antt. Assumes nothing.
-use Rattle.rules.specs.Tally.{fresh, afterCalls}
+use Rattle.general.specs.Tables.{tab}
+use Rattle.rules.specs.Basin.{rows}
+use Rattle.rules.specs.Tally.{begun, afterCalls}
 use Rattle.rules.specs.Turn.{pathOf}
 use Rattle.rules.specs.River.{lowest}
-use Rattle.rules.specs.Theorems.{Splitting, Paths, Water, Unclipped, PendingOn, PendingEnds, AlwaysPossible, OctoberAccepted}
+use Rattle.rules.specs.Theorems.{Splitting, Paths, Fresh, Water, StartKept, Checkpoints, Unclipped, PendingOn, PendingEnds, PendingBegins, AlwaysPossible, Resumed, OctoberAccepted}
 use Rattle.rules.proofs.Path.{path-ends, path-once, path-rising}
 use Rattle.rules.proofs.River.{lesser-signed, lowest-least}
 use Rattle.rules.proofs.Splits.{shares-sum}
-use Rattle.rules.proofs.Pending.{pending-on, pending-ends}
-use Rattle.rules.proofs.Sums.{fresh-ok, calls-ok, water-kept}
+use Rattle.rules.proofs.Months.{month-ok}
+use Rattle.rules.proofs.Resumed.{resumes}
+use Rattle.rules.proofs.Pending.{pending-on, pending-ends, pending-begins}
+use Rattle.rules.proofs.Sums.{begun-ok, calls-ok, calls-start, water-kept}
 use Rattle.rules.proofs.October.{october-facts}
-use Rattle.rules.proofs.Bounds.{fresh-possible, calls-possible}
+use Rattle.rules.proofs.Bounds.{fresh-facts, begun-possible, calls-possible}
 
 pub splitting : Splitting
 splitting a ps h = shares-sum a ps h
@@ -17,20 +21,36 @@ splitting a ps h = shares-sum a ps h
 pub paths : Paths
 paths b c r h = record { ends = path-ends b c r h; once = path-once b c r h; rising = path-rising (b .stations) r h }
 
+pub fresh : Fresh
+fresh b acc = fresh-facts b acc
+
 pub water : Water
-water b acc cs = water-kept b (afterCalls b (fresh b) cs) (calls-ok b acc (fresh b) cs (fresh-ok b))
+water b acc s p cs = water-kept b (afterCalls b (begun s) cs) (calls-ok b acc (begun s) cs (begun-ok b s (p .storages-count)))
+
+pub startKept : StartKept
+unfolding begun
+startKept b s cs = calls-start b (begun s) cs
+
+pub checkpoints : Checkpoints
+checkpoints b acc s p runoff = (month-ok b acc (s .carried) (p .storages-count) runoff (tab (rows b) (λ w. s .due w 1))) .sound
 
 pub unclipped : Unclipped
 unclipped b r s a k = lesser-signed a (lowest (s .levels) (pathOf b r)) (lowest-least (s .levels) (pathOf b r) (k .sound))
 
 pub pendingOn : PendingOn
-pendingOn b hs h w k l = pending-on b h w hs k l
+pendingOn b s hs h w k l = pending-on b s h w hs k l
 
 pub pendingEnds : PendingEnds
-pendingEnds b hs w k l = pending-ends b hs w k l
+pendingEnds b s hs w k l = pending-ends b s hs w k l
+
+pub pendingBegins : PendingBegins
+pendingBegins b s w k l = pending-begins b s w k l
 
 pub alwaysPossible : AlwaysPossible
-alwaysPossible b acc cs = calls-possible b acc (fresh b) cs (fresh-possible b acc)
+alwaysPossible b acc s p cs = calls-possible b acc (begun s) cs (begun-possible b s p)
+
+pub resumed : Resumed
+resumed b t cs = resumes b t cs
 
 pub octoberAccepted : OctoberAccepted
 octoberAccepted = october-facts

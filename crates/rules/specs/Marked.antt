@@ -3,8 +3,8 @@ use mathlib.Core.Path.{_≡_}
 use mathlib.Core.Bool.{true, false}
 use mathlib.Core.List.{List, [], _∷_}
 use mathlib.Core.Option.{some}
-use Prim.Native.Nat.{ℕ, suc}
-use lib.ListN.{replicate}
+use Prim.Native.Nat.{ℕ, suc, _+_, _-_}
+use lib.ListN.{getD, replicate}
 use lib.IntN.{pos}
 use Rattle.general.specs.Tables.{tab}
 use Rattle.rules.specs.Basin.{Station, Reservoir, direct, project, Basin}
@@ -13,8 +13,8 @@ use Rattle.rules.specs.River.{Level}
 use Rattle.rules.specs.Returns.{consumedAt, shares}
 use Rattle.rules.specs.Turn.{State, met, calledOut, riverLow, storageOut, Grant, scheduled}
 use Rattle.rules.specs.Month.{opening, grantsOf, areaAt, MonthRun}
-use Rattle.rules.specs.Tally.{Call, Tally, fresh, pending, nextRun, afterCalls, answers}
-use Rattle.rules.specs.Water.{totalOutflow, totalConsumption, inTransit}
+use Rattle.rules.specs.Tally.{Call, Start, Tally, fresh, begun, pending, nextRun, afterCalls, answers}
+use Rattle.rules.specs.Water.{totalRunoff, totalOutflow, totalConsumption, totalEvaporation, inTransit, startingStorage, startingDues}
 use Rattle.rules.specs.October.{plainRight, storageRight, returningRight, octoberStations, octoberReservoir, october, octoberCall}
 
 abbrev pub level : ℕ → ℕ → Level
@@ -42,8 +42,8 @@ pub record Marked : Type 0 where
   pub october-evaporation : octoberRun .evaporation ≡ 50 ∷ []
   pub october-carried : afterOctober .carried ≡ record { m = 1; storages = 1051 ∷ []; marks = false ∷ []; taken = 0 ∷ 0 ∷ 701 ∷ 0 ∷ 0 ∷ [] }
   -- of 805 that return at the last row, 242 are pending for November and 161 for December: 403 in all
-  pub october-pending : tab 3 (λ w. tab 11 (λ k. pending october (afterOctober .months) w (suc k))) ≡ replicate 11 0 ∷ replicate 11 0 ∷ (242 ∷ 161 ∷ replicate 9 0) ∷ []
-  pub october-in-transit : inTransit october (afterOctober .months) ≡ 403
+  pub october-pending : tab 3 (λ w. tab 11 (λ k. pending october (afterOctober .start) (afterOctober .months) w (suc k))) ≡ replicate 11 0 ∷ replicate 11 0 ∷ (242 ∷ 161 ∷ replicate 9 0) ∷ []
+  pub october-in-transit : inTransit october (afterOctober .start) (afterOctober .months) ≡ 403
   pub october-outflow : totalOutflow october (afterOctober .months) ≡ pos 0
   pub october-consumption : totalConsumption (afterOctober .months) ≡ 2496
   -- splitting
@@ -121,6 +121,13 @@ grantsIn b before c = grantsOf ((nextRun b (afterCalls b (fresh b) before) c) .t
 abbrev pub secondOctober : State
 secondOctober = opening filledBasin (record { m = 0; storages = 70 ∷ []; marks = true ∷ []; taken = 100 ∷ 0 ∷ [] }) (100 ∷ 0 ∷ []) (0 ∷ 0 ∷ [])
 
+-- January, 30 in the lake, and returns on their way: 7 to the first row next month, 5 to the second a month later
+abbrev pub january : Start
+january = record { carried = record { m = 3; storages = 30 ∷ []; marks = false ∷ []; taken = [] }; due = λ w k. getD (getD ((7 ∷ []) ∷ (0 ∷ 5 ∷ []) ∷ []) w []) (k - 1) 0 }
+
+abbrev pub afterJanuary : Tally
+afterJanuary = afterCalls shallowBasin (begun january) (sheet 100 0 ∷ [])
+
 pub record Told : Type 0 where
   -- the path goes by order, not by the next row
   pub path-by-order : path branchedStations 0 ≡ 0 ∷ 2 ∷ 3 ∷ []
@@ -142,6 +149,12 @@ pub record Told : Type 0 where
   -- October clears marks and taken
   pub october-clears-marks : secondOctober .marks ≡ false ∷ []
   pub october-clears-taken : secondOctober .taken ≡ 0 ∷ 0 ∷ []
+  -- a list that starts in January: what is due arrives, what is due later is pending, and all of it counts in the sum: 100 + 30 + 12 = 107 + 30 + 5
+  pub started-flow : (nextRun shallowBasin (begun january) (sheet 100 0)) .closed .levels ≡ level 107 107 ∷ level 107 107 ∷ []
+  pub started-pending : tab 2 (λ w. tab 3 (λ k. pending shallowBasin (afterJanuary .start) (afterJanuary .months) w (suc k))) ≡ (0 ∷ 0 ∷ 0 ∷ []) ∷ (5 ∷ 0 ∷ 0 ∷ []) ∷ []
+  pub started-sum : totalRunoff (afterJanuary .months) + (startingStorage (afterJanuary .start) + startingDues shallowBasin (afterJanuary .start)) ≡ 142
+  pub started-evaporation : totalEvaporation (afterJanuary .months) ≡ 30
+  pub started-month : (afterJanuary .carried) .m ≡ 4
   -- refusals: 6 for a short sheet or report, 8 with the first row over the limit; they change nothing
   pub refusals : answers filledBasin (fresh filledBasin) (record { runoff = 100 ∷ []; report = 27 } ∷ record { runoff = 0 ∷ 0 ∷ []; report = 12 } ∷ sheet 0 1_000_000_001 ∷ sheet 1_000_000_001 1_000_000_001 ∷ sheet 100 0 ∷ [])
       ≡ record { number = 6; place = 0 } ∷ record { number = 6; place = 0 } ∷ record { number = 8; place = 1 } ∷ record { number = 8; place = 0 } ∷ record { number = 0; place = 0 } ∷ []

@@ -1,4 +1,4 @@
--- The tally of a list of month calls (01, "The tally of a list of months"). It is fed the basin and each call's runoff and report length, and never a board.
+-- The tally of a list of month calls (01, "The tally of a list of months"). It is fed the basin, what the list starts from (02, No. 7), and each call's runoff and report length; after the start it never sees a board.
 use mathlib.Core.Bool.{Bool, true, false}
 use mathlib.Core.List.{List, [], _∷_, _++_, map}
 use mathlib.Core.Option.{Option, none, some}
@@ -48,12 +48,22 @@ refusal b c = judged (listsFit b c) (c .runoff)
 
 -- ---- the tally
 
--- what is carried, and the accepted months
+-- What a list of calls starts from: what is carried, and the return due at each row k months after the last finished month, k = 1 to 11.
+pub record Start : Type 0 where
+  pub carried : Carried
+  pub due : ℕ → ℕ → ℕ
+
+-- what it started from, what is carried now, and the accepted months since
 pub record Tally : Type 0 where
+  pub start : Start
   pub carried : Carried
   pub months : List MonthRun
 
--- It starts as fresh: starting storages, all else 0, without months.
+-- It begins with what the start carries, without months.
+unfoldable pub begun : Start → Tally
+begun s = record { start = s; carried = s .carried; months = [] }
+
+-- One start is fresh: starting storages, all else 0, nothing due.
 unfoldable pub freshCarried : Basin → Carried
 freshCarried b = record {
   m = 0;
@@ -62,27 +72,38 @@ freshCarried b = record {
   taken = replicate (length (b .rights)) 0;
 }
 
-unfoldable pub fresh : Basin → Tally
-fresh b = record { carried = freshCarried b; months = [] }
+unfoldable pub freshStart : Basin → Start
+freshStart b = record { carried = freshCarried b; due = λ w k. 0 }
+
+abbrev pub fresh : Basin → Tally
+fresh b = begun (freshStart b)
 
 -- of the months hs, counted from j on: the shares returned at row w, s months after a grant of month j, with j + s = z
 unfoldable pub pendingFrom : Basin → ℕ → List MonthRun → ℕ → ℕ → ℕ
 pendingFrom b j [] z w = 0
 pendingFrom b j (h ∷ hs) z w = sumTo 12 (λ s. only (eqb (j + s) z) (returnsAt b (h .turns) w s)) + pendingFrom b (suc j) hs z w
 
--- Pending (returns in transit) after n accepted months, at row w for k: the shares with j + s = n + k.
-unfoldable pub pending : Basin → List MonthRun → ℕ → ℕ → ℕ
-pending b hs w k = pendingFrom b 1 hs (length hs + k) w
+-- of the start's dues, what is not used z months after: what was due at z, where that is at most 11
+unfoldable pub stillDue : Start → ℕ → ℕ → ℕ
+stillDue s w z = only (ltb z 12) (s .due w z)
+
+-- Pending (returns in transit) after n accepted months, at row w for k: what the start had due at n + k, and the shares with j + s = n + k.
+unfoldable pub pending : Basin → Start → List MonthRun → ℕ → ℕ → ℕ
+pending b s hs w k = stillDue s w (length hs + k) + pendingFrom b 1 hs (length hs + k) w
 
 -- An accepted call runs steps 1 to 5 with pending in place of dues: what is pending at k = 1 arrives.
-unfoldable pub arriving : Basin → List MonthRun → List ℕ
-arriving b hs = tab (rows b) (λ w. pending b hs w 1)
+unfoldable pub arriving : Basin → Start → List MonthRun → List ℕ
+arriving b s hs = tab (rows b) (λ w. pending b s hs w 1)
 
 unfoldable pub nextRun : Basin → Tally → Call → MonthRun
-nextRun b t c = month b (t .carried) (c .runoff) (arriving b (t .months))
+nextRun b t c = month b (t .carried) (c .runoff) (arriving b (t .start) (t .months))
 
 unfoldable pub accept : Basin → Tally → Call → Tally
-accept b t c = record { carried = (nextRun b t c) .carried; months = t .months ++ (nextRun b t c ∷ []) }
+accept b t c = record { start = t .start; carried = (nextRun b t c) .carried; months = t .months ++ (nextRun b t c ∷ []) }
+
+-- Where the tally stands: what is carried and pending. A list of calls can start from there.
+unfoldable pub standing : Basin → Tally → Start
+standing b t = record { carried = t .carried; due = pending b (t .start) (t .months) }
 
 -- A call that the rules refuse changes nothing.
 unfoldable pub afterJudged : Option Answer → Basin → Tally → Call → Tally

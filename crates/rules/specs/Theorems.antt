@@ -5,17 +5,17 @@ use mathlib.Core.List.{List, [], _∷_, _++_}
 use Prim.Native.Nat.{ℕ, suc, _+_, _-_, _*_, _≤_, _<_}
 use lib.ListN.{length, getD}
 use lib.IntN.{pos}
-use Rattle.general.specs.Sums.{sum}
-use Rattle.general.specs.Tables.{Rising}
+use Rattle.general.specs.Sums.{sumOver, sum}
+use Rattle.general.specs.Tables.{tab, Rising}
 use Rattle.general.specs.Tests.{has}
-use Rattle.rules.specs.Basin.{Right, Basin, rows, reservoirAt, rightAt}
+use Rattle.rules.specs.Basin.{Reservoir, Right, Basin, rows, reservoirAt, rightAt}
 use Rattle.rules.specs.Path.{path, untilRow, lastRow}
 use Rattle.rules.specs.River.{lower, lowest, lesser}
 use Rattle.rules.specs.Returns.{shares}
 use Rattle.rules.specs.Turn.{State, pathOf}
-use Rattle.rules.specs.Month.{returnsAt, MonthRun}
-use Rattle.rules.specs.Tally.{Call, Tally, fresh, afterCalls, pending}
-use Rattle.rules.specs.Water.{Checkpoint, WaterKept}
+use Rattle.rules.specs.Month.{returnsAt, MonthRun, month}
+use Rattle.rules.specs.Tally.{Call, Start, freshStart, Tally, begun, standing, afterCalls, pending}
+use Rattle.rules.specs.Water.{startingStorage, startingDues, Checkpoint, MonthSound, WaterKept}
 use Rattle.rules.specs.Accepted.{Connected, Accepted}
 use Rattle.rules.specs.October.{october}
 
@@ -35,10 +35,42 @@ pub record PathFacts (b : Basin) (r : ℕ) : Type 0 where
 abbrev pub Paths : Type 0
 Paths = (b : Basin) → Connected b → (r : ℕ) → r < rows b → PathFacts b r
 
--- ---- the water sum, each reservoir's storage and the checkpoints, after every list of calls, accepted and refused in any mix
+-- ---- what a list of calls may start from: what 01 asks of a possible board
+
+-- due at k is at most (12 − k) × 256,000,000,000
+abbrev pub mostDue : ℕ → ℕ
+mostDue k = (12 - k) * 256_000_000_000
+
+pub record Possible (b : Basin) (s : Start) : Type 0 where
+  pub month-in-year : (s .carried) .m < 12
+  pub storages-count : length ((s .carried) .storages) ≡ length (b .reservoirs)
+  pub storages-most : (v : ℕ) → getD ((s .carried) .storages) v 0 ≤ (reservoirAt b v) .capacity
+  pub marks-count : length ((s .carried) .marks) ≡ length (b .reservoirs)
+  pub taken-count : length ((s .carried) .taken) ≡ length (b .rights)
+  pub taken-most : (i : ℕ) → getD ((s .carried) .taken) i 0 ≤ (rightAt b i) .limit
+  pub due-most : (w k : ℕ) → 1 ≤ k → k < 12 → s .due w k ≤ mostDue k
+
+-- The fresh start is one; its storages sum to the starting storages, and nothing is due.
+pub record FreshFacts (b : Basin) : Type 0 where
+  pub is-possible : Possible b (freshStart b)
+  pub storage : startingStorage (freshStart b) ≡ sumOver (λ (v : Reservoir). v .start) (b .reservoirs)
+  pub dues : startingDues b (freshStart b) ≡ 0
+
+abbrev pub Fresh : Type 0
+Fresh = (b : Basin) → Accepted b → FreshFacts b
+
+-- ---- the water sum, each reservoir's storage and the checkpoints, after every list of calls from any possible start, accepted and refused in any mix
 
 abbrev pub Water : Type 0
-Water = (b : Basin) → Accepted b → (cs : List Call) → WaterKept b (afterCalls b (fresh b) cs)
+Water = (b : Basin) → Accepted b → (s : Start) → Possible b s → (cs : List Call) → WaterKept b (afterCalls b (begun s) cs)
+
+-- the sum is counted from that start
+abbrev pub StartKept : Type 0
+StartKept = (b : Basin) (s : Start) (cs : List Call) → (afterCalls b (begun s) cs) .start ≡ s
+
+-- The checkpoints of any month run from a possible start.
+abbrev pub Checkpoints : Type 0
+Checkpoints = (b : Basin) → Accepted b → (s : Start) → Possible b s → (runoff : List ℕ) → MonthSound b (month b (s .carried) runoff (tab (rows b) (λ w. s .due w 1)))
 
 -- Where a checkpoint holds, the lesser of a demand and the lowest available flow is the lesser as signed numbers: nothing is cut off at 0.
 abbrev pub Unclipped : Type 0
@@ -47,29 +79,29 @@ Unclipped = (b : Basin) (r : Right) (s : State) (a : ℕ) → Checkpoint b s →
 -- ---- pending, one month on: what was pending at k + 1, and what the grants of the new month return after k months
 
 abbrev pub PendingOn : Type 0
-PendingOn = (b : Basin) (hs : List MonthRun) (h : MonthRun) (w k : ℕ) → k < 12 → pending b (hs ++ (h ∷ [])) w k ≡ pending b hs w (suc k) + returnsAt b (h .turns) w k
+PendingOn = (b : Basin) (s : Start) (hs : List MonthRun) (h : MonthRun) (w k : ℕ) → k < 12 → pending b s (hs ++ (h ∷ [])) w k ≡ pending b s hs w (suc k) + returnsAt b (h .turns) w k
 
--- a share is used up after eleven months
+-- a share, or what the start had due, is used up after eleven months
 abbrev pub PendingEnds : Type 0
-PendingEnds = (b : Basin) (hs : List MonthRun) (w k : ℕ) → 12 ≤ k → pending b hs w k ≡ 0
+PendingEnds = (b : Basin) (s : Start) (hs : List MonthRun) (w k : ℕ) → 12 ≤ k → pending b s hs w k ≡ 0
 
--- ---- what the tally keeps is always a possible board (01, "The board and one month")
+-- before the first month it is what the start has due
+abbrev pub PendingBegins : Type 0
+PendingBegins = (b : Basin) (s : Start) (w k : ℕ) → k < 12 → pending b s [] w k ≡ s .due w k
 
--- due at k is at most (12 − k) × 256,000,000,000
-abbrev pub mostDue : ℕ → ℕ
-mostDue k = (12 - k) * 256_000_000_000
-
-pub record Possible (b : Basin) (t : Tally) : Type 0 where
-  pub month-in-year : (t .carried) .m < 12
-  pub storages-count : length ((t .carried) .storages) ≡ length (b .reservoirs)
-  pub storages-most : (v : ℕ) → getD ((t .carried) .storages) v 0 ≤ (reservoirAt b v) .capacity
-  pub marks-count : length ((t .carried) .marks) ≡ length (b .reservoirs)
-  pub taken-count : length ((t .carried) .taken) ≡ length (b .rights)
-  pub taken-most : (i : ℕ) → getD ((t .carried) .taken) i 0 ≤ (rightAt b i) .limit
-  pub due-most : (w k : ℕ) → 1 ≤ k → pending b (t .months) w k ≤ mostDue k
+-- ---- what the tally keeps is always possible, and may be started from (01, "The board and one month")
 
 abbrev pub AlwaysPossible : Type 0
-AlwaysPossible = (b : Basin) → Accepted b → (cs : List Call) → Possible b (afterCalls b (fresh b) cs)
+AlwaysPossible = (b : Basin) → Accepted b → (s : Start) → Possible b s → (cs : List Call) → Possible b (standing b (afterCalls b (begun s) cs))
+
+-- ---- a list that starts where a tally stands goes on as that tally would
+
+pub record SameStanding (b : Basin) (t u : Tally) : Type 0 where
+  pub carried-same : t .carried ≡ u .carried
+  pub pending-same : (w k : ℕ) → k < 12 → pending b (t .start) (t .months) w k ≡ pending b (u .start) (u .months) w k
+
+abbrev pub Resumed : Type 0
+Resumed = (b : Basin) (t : Tally) (cs : List Call) → SameStanding b (afterCalls b (begun (standing b t)) cs) (afterCalls b t cs)
 
 -- ---- the facts asked of a basin are met: by 01's October
 

@@ -7,12 +7,12 @@ use lib.ListN.{length, getD}
 use lib.IntN.{ℤ, pos, _+ℤ_, _-ℤ_}
 use Rattle.general.specs.Sums.{sumOver, sumOverℤ, sum, sumTo, sumToℤ, only}
 use Rattle.general.specs.Tables.{All}
-use Rattle.rules.specs.Basin.{Reservoir, Kind, direct, project, instream, storage, Basin, rows, reservoirAt}
+use Rattle.rules.specs.Basin.{Kind, direct, project, instream, storage, Basin, rows}
 use Rattle.rules.specs.Path.{lastRow}
 use Rattle.rules.specs.River.{levelAt, flowAt, Sound}
 use Rattle.rules.specs.Turn.{State, Turn}
 use Rattle.rules.specs.Month.{consumedBy, MonthRun}
-use Rattle.rules.specs.Tally.{Tally, pending}
+use Rattle.rules.specs.Tally.{Start, Tally, pending}
 
 -- ---- totals over the accepted months
 
@@ -30,13 +30,18 @@ unfoldable pub totalEvaporation : List MonthRun → ℕ
 totalEvaporation hs = sumOver (λ (h : MonthRun). sum (h .evaporation)) hs
 
 -- returns still on their way: pending over all rows and k = 1 to 11
-unfoldable pub inTransit : Basin → List MonthRun → ℕ
-inTransit b hs = sumTo (rows b) (λ w. sumTo 11 (λ k. pending b hs w (suc k)))
+unfoldable pub inTransit : Basin → Start → List MonthRun → ℕ
+inTransit b s hs = sumTo (rows b) (λ w. sumTo 11 (λ k. pending b s hs w (suc k)))
+
+-- ---- the start: its storages, and its dues over all rows and k = 1 to 11
+
+unfoldable pub startingStorage : Start → ℕ
+startingStorage s = sum ((s .carried) .storages)
+
+unfoldable pub startingDues : Basin → Start → ℕ
+startingDues b s = sumTo (rows b) (λ w. sumTo 11 (λ k. s .due w (suc k)))
 
 -- ---- storages, by the grants
-
-unfoldable pub startingStorage : Basin → ℕ
-startingStorage b = sumOver (λ (v : Reservoir). v .start) (b .reservoirs)
 
 -- what a turn stores in reservoir v: the river part of its kind 4 rights
 unfoldable pub storedBy : Kind → ℕ → Turn → ℕ
@@ -67,12 +72,12 @@ totalDrawn v hs = sumOver (λ (h : MonthRun). drawnFrom v (h .turns)) hs
 unfoldable pub totalLost : ℕ → List MonthRun → ℕ
 totalLost v hs = sumOver (λ (h : MonthRun). getD (h .evaporation) v 0) hs
 
--- A reservoir's storage now: its start + what its kind 4 rights stored − what its kind 2 rights drew − its evaporation.
-unfoldable pub storageNow : Basin → List MonthRun → ℕ → ℤ
-storageNow b hs v = pos ((reservoirAt b v) .start + totalStored v hs) -ℤ pos (totalDrawn v hs) -ℤ pos (totalLost v hs)
+-- A reservoir's storage now: its storage at the start + what its kind 4 rights stored − what its kind 2 rights drew − its evaporation.
+unfoldable pub storageNow : Start → List MonthRun → ℕ → ℤ
+storageNow s hs v = pos (getD ((s .carried) .storages) v 0 + totalStored v hs) -ℤ pos (totalDrawn v hs) -ℤ pos (totalLost v hs)
 
-unfoldable pub allStorageNow : Basin → List MonthRun → ℤ
-allStorageNow b hs = sumToℤ (length (b .reservoirs)) (storageNow b hs)
+unfoldable pub allStorageNow : Basin → Start → List MonthRun → ℤ
+allStorageNow b s hs = sumToℤ (length (b .reservoirs)) (storageNow s hs)
 
 -- ---- the checkpoints
 
@@ -95,10 +100,10 @@ pub record MonthSound (b : Basin) (h : MonthRun) : Type 0 where
 -- ---- the claim
 
 pub record WaterKept (b : Basin) (t : Tally) : Type 0 where
-  -- runoff + starting storage = outflow + consumption + evaporation + returns on their way + storage now
-  pub balance : pos (totalRunoff (t .months) + startingStorage b)
-      ≡ totalOutflow b (t .months) +ℤ pos (totalConsumption (t .months)) +ℤ pos (totalEvaporation (t .months)) +ℤ pos (inTransit b (t .months)) +ℤ allStorageNow b (t .months)
+  -- runoff + the start's storages and dues = outflow + consumption + evaporation + returns on their way + storage now
+  pub balance : pos (totalRunoff (t .months) + (startingStorage (t .start) + startingDues b (t .start)))
+      ≡ totalOutflow b (t .months) +ℤ pos (totalConsumption (t .months)) +ℤ pos (totalEvaporation (t .months)) +ℤ pos (inTransit b (t .start) (t .months)) +ℤ allStorageNow b (t .start) (t .months)
   -- each storage by the grants is the storage that the tally keeps
-  pub storages : (v : ℕ) → storageNow b (t .months) v ≡ pos (getD ((t .carried) .storages) v 0)
+  pub storages : (v : ℕ) → storageNow (t .start) (t .months) v ≡ pos (getD ((t .carried) .storages) v 0)
   -- 0 ≤ available flow ≤ flow, at every row and checkpoint of every accepted month
   pub checkpoints : All (MonthSound b) (t .months)
