@@ -1,6 +1,6 @@
 -- The calls on a file and lent numbers: fresh, month and stock, each for every input, refusals included (01, "Numbers for what is turned down").
 use mathlib.Core.Path.{_≡_}
-use mathlib.Core.Bool.{Bool, true, false}
+use mathlib.Core.Bool.{Bool, true, false, cond}
 use mathlib.Core.List.{List}
 use mathlib.Core.Option.{Option, none, some}
 use Prim.Native.Nat.{ℕ, suc, _+_, _<_}
@@ -13,9 +13,8 @@ use Rattle.rules.specs.Basin.{Basin, rows}
 use Rattle.rules.specs.Month.{returnsAt, MonthRun, month, shortCount}
 use Rattle.rules.specs.Tally.{Answer, reportLength, overLimit, overAnswer, freshCarried}
 use Rattle.basin.specs.declared.Verdict.{Verdict}
-use Rattle.basin.specs.declared.Verdict.the-variants.{Accepted, Layout, Station, Reservoir, Pattern, Right}
 use Rattle.records.specs.Records.{basinOf}
-use Rattle.basin.specs.Check.{checkOf}
+use Rattle.basin.specs.Check.{numberOf, placeOf, checkOf}
 use Rattle.boards.specs.Board.{carriedOf, dueAt, boardOf, possible, storageSum, dueSum}
 use Rattle.boards.specs.Report.{grantAt, reportOf, nameIn}
 
@@ -24,15 +23,10 @@ use Rattle.boards.specs.Report.{grantAt, reportOf, nameIn}
 abbrev pub accepted : Answer
 accepted = record { number = 0; place = 0 }
 
+-- 1 to 5: the check's number and place
 unfoldable pub verdictRefusal : Verdict → Option Answer
-verdictRefusal Accepted = none
-verdictRefusal Layout = some (record { number = 1; place = 0 })
-verdictRefusal (Station i) = some (record { number = 2; place = i })
-verdictRefusal (Reservoir i) = some (record { number = 3; place = i })
-verdictRefusal (Pattern i) = some (record { number = 4; place = i })
-verdictRefusal (Right i) = some (record { number = 5; place = i })
+verdictRefusal v = cond (eqb (numberOf v) 0) none (some (record { number = numberOf v; place = placeOf v }))
 
--- 1 to 5: the file
 unfoldable pub fileRefusal : List ℕ → Option Answer
 fileRefusal f = verdictRefusal (checkOf f)
 
