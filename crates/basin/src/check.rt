@@ -15,12 +15,13 @@ use layout::contents::STATIONS;
 use layout::contents::layout_ok;
 use layout::contents::section;
 
-// Stations come first, so that the rows that later bodies name are known to be good.
+// Stations come first: the rows that later bodies name are then known to be good, and each row below has been found.
 fn check_bodies(stations: &[u8], reservoirs: &[u8], patterns: &[u8], rights: &[u8]) -> Verdict
     requires { ⌜ (0 < rowsOf (now stations)) × (rowsOf (now stations) ≤ 64) ⌝ }
     ensures { λ r. ⌜ r ≡ bodiesVerdict (now (stations .entry)) (now (reservoirs .entry)) (now (patterns .entry)) (now (rights .entry)) ⌝ }
 {
-    let on_stations = check_stations(stations);
+    let mut below = [255u8; 64];
+    let on_stations = check_stations(stations, &mut below);
     let Verdict::Accepted = on_stations else {
         return on_stations;
     };
@@ -32,7 +33,7 @@ fn check_bodies(stations: &[u8], reservoirs: &[u8], patterns: &[u8], rights: &[u
     let Verdict::Accepted = on_patterns else {
         return on_patterns;
     };
-    check_rights(stations, reservoirs, patterns, rights)
+    check_rights(stations, &below, reservoirs, patterns, rights)
 }
 
 // The verdict on any bytes: the lowest number that applies, with the first at fault.

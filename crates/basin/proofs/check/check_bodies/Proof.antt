@@ -13,7 +13,7 @@ enum-told : tie.Need-enum-told
 enum-told c = search needs
 
 returns : tie.Need-returns
-returns c = at-stations _ _ _ _ _ (c .before .check-stations .ensures) (refused _ (c .match .keys2))
+returns c = at-stations _ _ _ _ _ (c .before .check-stations .ensures .0) (refused _ (c .match .keys2))
 
 check-reservoirs-requires : tie.Need-check-reservoirs-requires
 check-reservoirs-requires c κs = search needs
@@ -22,7 +22,7 @@ enum-told-2 : tie.Need-enum-told-2
 enum-told-2 c = search needs
 
 returns-2 : tie.Need-returns-2
-returns-2 c = at-reservoirs _ _ _ _ (sym (c .before .before .before .before .check-stations .ensures) ∙ c .before .before .enum-told .given .1) _ (c .before .check-reservoirs .ensures) (refused _ (c .match2 .keys2))
+returns-2 c = at-reservoirs _ _ _ _ (sym (c .before .before .before .before .check-stations .ensures .0) ∙ c .before .before .enum-told .given .1) _ (c .before .check-reservoirs .ensures) (refused _ (c .match2 .keys2))
 
 check-patterns-requires : tie.Need-check-patterns-requires
 check-patterns-requires c κs = search needs
@@ -31,16 +31,15 @@ enum-told-3 : tie.Need-enum-told-3
 enum-told-3 c = search needs
 
 returns-3 : tie.Need-returns-3
-returns-3 c = at-patterns _ _ _ _ (sym (c .before .before .before .before .before .before .before .check-stations .ensures) ∙ c .before .before .before .before .before .enum-told .given .1) (sym (c .before .before .before .before .check-reservoirs .ensures) ∙ c .before .before .enum-told2 .given .1) _ (c .before .check-patterns .ensures) (refused _ (c .match3 .keys2))
+returns-3 c = at-patterns _ _ _ _ (sym (c .before .before .before .before .before .before .before .check-stations .ensures .0) ∙ c .before .before .before .before .before .enum-told .given .1) (sym (c .before .before .before .before .check-reservoirs .ensures) ∙ c .before .before .enum-told2 .given .1) _ (c .before .check-patterns .ensures) (refused _ (c .match3 .keys2))
 
 check-rights-requires : tie.Need-check-rights-requires
 check-rights-requires c κs =
-    let b = c .before .before .before .before .before .before .before .before .before .before .before .before .before in
-    let a = b .args in
-    (b .pre .1, rows-good (now (a .stations)) (now (a .reservoirs)) (now (a .patterns)) (now (a .rights)) (sym (c .before .before .before .before .before .check-reservoirs .ensures) ∙ c .before .before .before .enum-told2 .given .1))
+    let a = c .before .before .before .before .before .before .before .before .before .before .before .before .before .before .before .args in
+    (c .before .before .before .before .before .before .before .before .before .check-stations .ensures .1 (c .before .before .before .before .before .before .before .enum-told .given .1), rows-good (now (a .stations)) (now (a .reservoirs)) (now (a .patterns)) (now (a .rights)) (sym (c .before .before .before .before .before .before .check-reservoirs .ensures) ∙ c .before .before .before .before .enum-told2 .given .1))
 
 returns-4 : tie.Need-returns-4
-returns-4 c = c .check-rights .ensures ∙ sym (at-rights _ _ _ _ (sym (c .before .before .before .before .before .before .before .before .before .check-stations .ensures) ∙ c .before .before .before .before .before .before .before .enum-told .given .1) (sym (c .before .before .before .before .before .before .check-reservoirs .ensures) ∙ c .before .before .before .before .enum-told2 .given .1) (sym (c .before .before .before .check-patterns .ensures) ∙ c .before .enum-told3 .given .1))
+returns-4 c = c .check-rights .ensures ∙ sym (at-rights _ _ _ _ (sym (c .before .before .before .before .before .before .before .before .before .before .check-stations .ensures .0) ∙ c .before .before .before .before .before .before .before .before .enum-told .given .1) (sym (c .before .before .before .before .before .before .before .check-reservoirs .ensures) ∙ c .before .before .before .before .before .enum-told2 .given .1) (sym (c .before .before .before .before .check-patterns .ensures) ∙ c .before .before .enum-told3 .given .1))
 
 pub check-bodies-spec : {M : Type 1} → statement M
 check-bodies-spec =

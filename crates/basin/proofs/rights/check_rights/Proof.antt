@@ -1,4 +1,4 @@
--- `basin::rights::check_each` meets its contract. The loop's invariant: the rights not yet looked at give the verdict. Assumes nothing.
+-- `basin::rights::check_rights` meets its contract. The loop's invariant: the rights not yet looked at give the verdict. Assumes nothing.
 use mathlib.Core.Path.{_≡_, refl, _∙_}
 use Prim.Native.Nat.{_-_, _≤_}
 use native.Mathlib.Omega.{arith}
@@ -10,8 +10,8 @@ use Rattle.records.specs.Records.{patternCount, rightCount}
 use Rattle.filerules.specs.FileRules.{rightOk}
 use Rattle.basin.specs.Check.{rightsVerdict}
 use Rattle.basin.proofs.Faults.{verdictFrom, verdict-all, verdict-good, verdict-bad, verdict-done}
-use Rattle.basin.proofs.rights.check_each.Statement.{statement}
-use Rattle.basin.proofs.rights.check_each.Tie as tie
+use Rattle.basin.proofs.rights.check_rights.Statement.{statement}
+use Rattle.basin.proofs.rights.check_rights.Tie as tie
 
 abbrev Inv-loop : tie.InvT-loop
 Inv-loop stations below reservoirs patterns rights np n i₀ i = (n ≡ rightCount rights) × (i ≤ n) × (verdictFrom Right (rightOk stations reservoirs np rights) n i ≡ rightsVerdict stations reservoirs patterns rights Accepted)
@@ -41,8 +41,8 @@ loop-again c = let a = c .before .before .before .before .before .before .before
 returns-2 : tie.Need-returns-2 Inv-loop μ-loop
 returns-2 c = let a = c .before .before .before .before .before .before .args in verdict-done Right (rightOk (now (a .stations)) (now (a .reservoirs)) (patternCount (now (a .patterns))) (now (a .rights))) _ (c .before .loop .i) (omega arith) ∙ c .before .loop .inv .2
 
-pub check-each-spec : {M : Type 1} → statement M
-check-each-spec =
+pub check-rights-spec : {M : Type 1} → statement M
+check-rights-spec =
     tie.close
     (tie.spec
     Inv-loop
