@@ -1,4 +1,4 @@
--- The check of a file: the lowest number that applies, with the first at fault (01, "Numbers for what is turned down").
+-- The check of a file: what is told is the kind of fault with the lowest number, and of its records the first (01, "Numbers for what is turned down").
 use mathlib.Core.Bool.{Bool, cond}
 use mathlib.Core.List.{List}
 use mathlib.Core.Option.{Option, none, some}
@@ -49,10 +49,10 @@ patternsVerdict ps later = faultOr Pattern (firstFault (patternCount ps) (patter
 unfoldable pub rightsVerdict : List ℕ → List ℕ → List ℕ → List ℕ → Verdict → Verdict
 rightsVerdict st rs ps s later = faultOr Right (firstFault (rightCount s) (rightOk st rs (patternCount ps) s)) later
 
--- stations before reservoirs before patterns before rights
+-- in the order of the sections, which is that of their numbers
 unfoldable pub bodiesVerdict : List ℕ → List ℕ → List ℕ → List ℕ → Verdict
 bodiesVerdict st rs ps s = stationsVerdict st (reservoirsVerdict st rs (patternsVerdict ps (rightsVerdict st rs ps s Accepted)))
 
--- The lowest number that applies: the layout's 1 before the bodies' 2 to 5.
+-- The layout comes first: where it is at fault nobody knows where the records are.
 unfoldable pub checkOf : List ℕ → Verdict
 checkOf f = cond (layoutOk f) (bodiesVerdict (sectionOf f 0) (sectionOf f 1) (sectionOf f 2) (sectionOf f 3)) Layout

@@ -36,7 +36,7 @@ fn check_bodies(stations: &[u8], reservoirs: &[u8], patterns: &[u8], rights: &[u
     check_rights(stations, &below, reservoirs, patterns, rights)
 }
 
-// The verdict on any bytes: the lowest number that applies, with the first at fault.
+// The verdict on any bytes.
 pub fn check(file: &[u8]) -> Verdict
     ensures { λ r. ⌜ r ≡ checkOf (now (file .entry)) ⌝ }
 {

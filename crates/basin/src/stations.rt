@@ -13,7 +13,7 @@ use records::network::Below;
 use records::network::row_below;
 use records::stations::station_at;
 
-// The last row has no row below, and its order is 1.
+// The last row has nowhere to go on to, and its own order is asked instead.
 fn check_last(stations: &[u8], last: usize) -> Verdict
     requires { ⌜ last + 1 ≡ rowsOf (now stations) ⌝ }
     ensures { λ r. ⌜ r ≡ onlyIf (stationOk (now (stations .entry)) last) (Verdict.Station last) ⌝ }
@@ -25,8 +25,8 @@ fn check_last(stations: &[u8], last: usize) -> Verdict
     Verdict::Station(last)
 }
 
-// The first row at fault. Another row than the last that finds no row below is refused; the row that it finds goes into the table, by which
-// the rights' rules walk down the river. The last row's place keeps the number that stands for none.
+// The first row at fault, which a row above the last is where it finds no row to go on to. The rows that are found fill the table, by which
+// the rights' rules walk down the river; the last row's place keeps the number that stands for none.
 pub fn check_stations(stations: &[u8], below: &mut [u8; 64]) -> Verdict
     requires { ⌜ (0 < rowsOf (now stations)) × (rowsOf (now stations) ≤ 64) × (now below ≡ replicate 64 255) ⌝ }
     ensures { λ r. ⌜ r ≡ stationsVerdict (now (stations .entry)) Verdict.Accepted ⌝ }

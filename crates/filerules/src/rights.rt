@@ -20,14 +20,12 @@ use records::rights::return_percent;
 use records::rights::return_row;
 use records::rights::right_at;
 
-// Undated rights have the highest date of all, so that they come last.
 fn date_ok(date: u32) -> bool
     ensures { λ r. ⌜ r ≡ dateOk date ⌝ }
 {
     either(in_range(18000101, date, 20991231), date == 99999999)
 }
 
-// Only a storage right has a yearly limit.
 fn limit_ok(kind: u8, limit: u32) -> bool
     ensures { λ r. ⌜ r ≡ limitOk kind limit ⌝ }
 {
@@ -111,7 +109,6 @@ fn points_ok(n: usize, np: usize, rights: &[u8], i: usize, r: RightRecord) -> bo
     both(each, percent_sum(rights, i, points) == 100)
 }
 
-// What returns: nothing for kinds 3 and 4; without points all is consumed; else by points and pattern.
 fn returns_ok(n: usize, np: usize, rights: &[u8], i: usize, r: RightRecord) -> bool
     requires { ⌜ (i < rightCount (now rights)) × (r .points ≤ 4) ⌝ }
     ensures { λ b. ⌜ b ≡ returnsOk n np (now (rights .entry)) i r ⌝ }
@@ -155,7 +152,7 @@ fn is_earlier(a: RightRecord, b: RightRecord) -> bool
     either(a.date < b.date, both(a.date == b.date, a.permit < b.permit))
 }
 
-// Of two neighbours out of order the later is at fault.
+// The first right has none before it.
 fn right_rises(rights: &[u8], i: usize) -> bool
     requires { ⌜ i < rightCount (now rights) ⌝ }
     ensures { λ b. ⌜ b ≡ rightRises (now (rights .entry)) i ⌝ }

@@ -9,7 +9,7 @@ use layout::conditions::both;
 use layout::conditions::in_range;
 use records::stations::station_at;
 
-// Of two neighbours out of order the later is at fault.
+// The first row has none before it.
 fn number_rises(stations: &[u8], row: usize) -> bool
     requires { ⌜ row < rowsOf (now stations) ⌝ }
     ensures { λ r. ⌜ r ≡ numberRises (now (stations .entry)) row ⌝ }

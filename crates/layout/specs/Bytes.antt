@@ -1,4 +1,4 @@
--- Numbers in a list of bytes: the least significant byte stands first (01: "little-endian there").
+-- Numbers in a list of bytes, the least significant byte first (01, its first paragraph).
 use mathlib.Core.Bool.{Bool}
 use mathlib.Core.List.{List}
 use Prim.Native.Nat.{ℕ, _+_, _*_}
@@ -16,7 +16,7 @@ le16At s i = byteAt s i + byteAt s (i + 1) * 256
 unfoldable pub le32At : List ℕ → ℕ → ℕ
 le32At s i = byteAt s i + byteAt s (i + 1) * 256 + byteAt s (i + 2) * 65536 + byteAt s (i + 3) * 16777216
 
--- 3 zero bytes
+-- padding, which has to be 0
 unfoldable pub threeZeros : List ℕ → ℕ → Bool
 threeZeros s i =
     eqb (byteAt s i) 0

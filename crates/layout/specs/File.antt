@@ -1,5 +1,5 @@
--- The layout of a basin file (01, "The basin file"): a table of contents, then four bodies.
--- Sections 0, 1, 2, 3 are stations, reservoirs, patterns, rights. All numbers are natural numbers, so no offset or size can wrap.
+-- How a basin file is laid out (01, "The basin file"): a table that says where each of four sections starts and how many records it has, then the records.
+-- A section goes by its place in the table: stations 0, reservoirs 1, patterns 2, rights 3. All numbers are natural numbers, so no sum or product wraps.
 use mathlib.Core.Bool.{Bool, cond}
 use mathlib.Core.List.{List, []}
 use Prim.Native.Nat.{ℕ, _+_, _*_}
@@ -12,21 +12,21 @@ use Rattle.layout.specs.Bytes.{le32At}
 unfoldable pub widthOf : ℕ → ℕ
 widthOf w = cond (eqb w 0) 8 (cond (eqb w 1) 68 (cond (eqb w 2) 12 76))
 
--- the table of contents: for each section in turn its offset (4 bytes) and its count (4)
+-- what the table of contents says of a section: where it starts, and its number of records
 unfoldable pub offsetOf : List ℕ → ℕ → ℕ
 offsetOf f w = le32At f (8 * w)
 
 unfoldable pub countOf : List ℕ → ℕ → ℕ
 countOf f w = le32At f (8 * w + 4)
 
--- the size of a body, and where it ends
+-- the bytes of all its records, and where they end
 abbrev pub sizeOf : List ℕ → ℕ → ℕ
 sizeOf f w = countOf f w * widthOf w
 
 abbrev pub endOf : List ℕ → ℕ → ℕ
 endOf f w = offsetOf f w + sizeOf f w
 
--- stations 1–64, reservoirs 0–8, patterns 0–16, rights 0–256
+-- A basin has a station at least; any other section may be empty.
 unfoldable pub countsOk : List ℕ → Bool
 countsOk f =
     between 1 (countOf f 0) 64
@@ -34,7 +34,7 @@ countsOk f =
     and leb (countOf f 2) 16
     and leb (countOf f 3) 256
 
--- The bodies follow the table without gaps, and the file ends with the last. An empty section's offset is where its body would start.
+-- The first section starts right after the table, each other one, empty ones too, where the one before ends; after the last comes nothing.
 unfoldable pub packed : List ℕ → Bool
 packed f =
     eqb (offsetOf f 0) 32
@@ -43,13 +43,13 @@ packed f =
     and eqb (offsetOf f 3) (endOf f 2)
     and eqb (length f) (endOf f 3)
 
--- at least the table's 32 bytes, counts in range, offsets and end packed
+-- the table is there, and the file is as it says
 unfoldable pub layoutOk : List ℕ → Bool
 layoutOk f =
     leb 32 (length f)
     and countsOk f
     and packed f
 
--- A section's body, as the part of the file that it fills; nothing where the table does not name a part of the file.
+-- the part of the file that holds the records of a section; nothing where the table points past the end
 unfoldable pub sectionOf : List ℕ → ℕ → List ℕ
 sectionOf f w = cond (leb 32 (length f) and leb (endOf f w) (length f)) (take (sizeOf f w) (drop (offsetOf f w) f)) []

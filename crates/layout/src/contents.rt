@@ -64,7 +64,6 @@ fn counts_ok(file: &[u8]) -> bool
     both(patterns, count(file, RIGHTS) <= 256)
 }
 
-// Whether each body starts where the one before it ends, and the file ends with the last.
 fn is_packed(file: &[u8]) -> bool
     requires { ⌜ 32 ≤ length (now file) ⌝ }
     ensures { λ r. ⌜ r ≡ packed (now (file .entry)) ⌝ }
@@ -86,7 +85,7 @@ pub fn layout_ok(file: &[u8]) -> bool
     both(counts_ok(file), is_packed(file))
 }
 
-// The part of the file that a section's body fills; an empty part where the table names none.
+// The records of a section where they stand in the caller's file, nothing copied.
 pub fn section<'a>(file: &'a [u8], which: usize) -> &'a [u8]
     requires { ⌜ which < 4 ⌝ }
     ensures { λ r. ⌜ now r ≡ sectionOf (now (file .entry)) which ⌝ }

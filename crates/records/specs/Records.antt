@@ -13,7 +13,7 @@ use Rattle.records.specs.declared.rights.RightRecord.{RightRecord}
 use Rattle.layout.specs.Bytes.{byteAt, le16At, le32At}
 use Rattle.layout.specs.File.{sectionOf}
 
--- ---- stations, 8 bytes: number (4), order (1), 3 zero bytes
+-- ---- stations, 8 bytes each
 
 abbrev pub rowsOf : List ℕ → ℕ
 rowsOf s = length s / 8
@@ -27,7 +27,7 @@ stationOf s i = record { number = (stationRecord s i) .number; order = (stationR
 unfoldable pub stationsOf : List ℕ → List Station
 stationsOf s = tab (rowsOf s) (stationOf s)
 
--- ---- reservoirs, 68 bytes: row (1), 3 zero bytes, capacity (4), starting storage (4), four pairs storage (4) and area (4), twelve depths (2 each)
+-- ---- reservoirs, 68 bytes each: the plain fields, then the area-capacity table, then a depth for each month
 
 abbrev pub reservoirCount : List ℕ → ℕ
 reservoirCount s = length s / 68
@@ -56,7 +56,7 @@ reservoirOf s v = record {
 unfoldable pub reservoirsOf : List ℕ → List Reservoir
 reservoirsOf s = tab (reservoirCount s) (reservoirOf s)
 
--- ---- patterns, 12 bytes: twelve percents
+-- ---- patterns, 12 bytes each: a percent for each month of delay
 
 abbrev pub patternCount : List ℕ → ℕ
 patternCount s = length s / 12
@@ -74,8 +74,7 @@ patternsOf s = tab (patternCount s) (patternOf s)
 unfoldable pub sixteenPatterns : List ℕ → List (List ℕ)
 sixteenPatterns s = patternsOf s ++ replicate (16 - patternCount s) (replicate 12 0)
 
--- ---- rights, 76 bytes: permit (4), date (4), kind, row, reservoir, efficiency, pattern, number of return points (1 each), months word (2), yearly limit (4),
--- ---- twelve amounts (4 each), four pairs return row (1) and percent (1)
+-- ---- rights, 76 bytes each: the plain fields, then an amount for each month, then room for four return points
 
 abbrev pub rightCount : List ℕ → ℕ
 rightCount s = length s / 76
@@ -103,7 +102,7 @@ returnRow s i k = byteAt s (76 * i + 68 + 2 * k)
 unfoldable pub returnPercent : List ℕ → ℕ → ℕ → ℕ
 returnPercent s i k = byteAt s (76 * i + 69 + 2 * k)
 
--- 1 direct; 2 project; 3 instream; 4 storage
+-- the kind that a byte stands for; the check lets no byte through but these four
 unfoldable pub kindOf : ℕ → Kind
 kindOf k = cond (eqb k 1) direct (cond (eqb k 2) project (cond (eqb k 3) instream storage))
 

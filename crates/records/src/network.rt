@@ -22,7 +22,7 @@ fn order_at(stations: &[u8], row: usize) -> usize
     index(stations[8 * row + 4])
 }
 
-// The first later row with the row's order or one less.
+// The river goes on at the next row of the same order, or of one less.
 pub fn row_below(stations: &[u8], row: usize) -> Below
     requires { ⌜ row < rowsOf (now stations) ⌝ }
     ensures { λ r. ⌜ r ≡ belowOf (rowBelow (stationsOf (now (stations .entry))) row) ⌝ }
@@ -43,7 +43,7 @@ pub fn row_below(stations: &[u8], row: usize) -> Below
     Below::Nothing
 }
 
-// The number that stands for a row below in the table. No row has the number 255.
+// The number that stands for a row below in the table: a row's own, which fits since there are at most 64, and 255 for none.
 fn code(stations: &[u8], row: usize) -> u8
     requires { ⌜ (row < rowsOf (now stations)) × (rowsOf (now stations) ≤ 64) ⌝ }
     ensures { λ r. ⌜ r ≡ belowCode (rowBelow (stationsOf (now (stations .entry))) row) ⌝ }
@@ -51,7 +51,7 @@ fn code(stations: &[u8], row: usize) -> u8
     let Below::Row(next) = row_below(stations, row) else {
         return 255;
     };
-    (next % 256) as u8
+    next as u8
 }
 
 // The row below each row, looked up once for all walks.

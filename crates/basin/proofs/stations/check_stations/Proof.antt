@@ -1,4 +1,5 @@
--- `basin::stations::check_stations` meets its contract. The loop's invariant: the rows not yet looked at give the verdict, and the table has the rows below of those before. The last row has its own function. Assumes nothing.
+-- `basin::stations::check_stations` meets its contract. The loop's invariant: the rows not yet looked at give the verdict, and the table has the rows
+-- below of the others. The last row has its own function. Assumes nothing.
 use mathlib.Core.Path.{_≡_, sym, ap, _∙_}
 use Prim.Native.Nat.{_+_, _-_, _≤_}
 use native.Mathlib.Omega.{arith}

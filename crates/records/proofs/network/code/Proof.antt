@@ -24,14 +24,16 @@ returns c =
     code-none (stationsOf (now (a .stations))) (a .row) (sym (c .before .before .row-below .ensures) ∙ c .enum-told .given .1)
 
 cast-result : tie.Need-cast-result
-cast-result c = search needs
-
-returns-2 : tie.Need-returns-2
-returns-2 c =
+cast-result c =
     let b = c .before .before .before .before .before in
     let s = now (b .args .stations) in
     let w = code-row (stationsOf s) (b .args .row) (c .before .next .given .0 .0) (sym (c .before .before .before .row-below .ensures) ∙ c .before .next .given .1) in
-    omega (arith, w .0, w .1, rows-are s, b .pre .1)
+    omega (arith, w .0, rows-are s, b .pre .1)
+
+returns-2 : tie.Need-returns-2
+returns-2 c =
+    let a = c .before .before .before .before .before .args in
+    code-row (stationsOf (now (a .stations))) (a .row) _ (sym (c .before .before .before .row-below .ensures) ∙ c .before .next .given .1) .1
 
 pub code-spec : {M : Type 1} → statement M
 code-spec =
