@@ -11,6 +11,12 @@ static uint8_t *read_file(const char *path, size_t *length)
     FILE *file = fopen(path, "rb");
     if (file == NULL)
         return NULL;
+    /* A folder opens as a file does, and only a read tells. */
+    fgetc(file);
+    if (ferror(file)) {
+        fclose(file);
+        return NULL;
+    }
     fseek(file, 0, SEEK_END);
     *length = (size_t)ftell(file);
     rewind(file);
@@ -45,7 +51,7 @@ int main(int count, char **names)
         size_t length = 0;
         uint8_t *file = read_file(names[i], &length);
         if (file == NULL) {
-            printf("%s cannot be opened\n", names[i]);
+            printf("%s cannot be read\n", names[i]);
             continue;
         }
         print_verdict(names[i], file, length);

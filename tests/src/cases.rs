@@ -23,6 +23,14 @@ impl Case {
     }
 }
 
+/// A folder that stands among the files; it opens as a file does, and no read of it succeeds.
+pub const A_FOLDER: &str = "a_folder";
+
+/// What is named but cannot be read, with what `rivercheck` prints of it.
+pub fn unread() -> [(String, String); 2] {
+    ["no_such_file", A_FOLDER].map(|name| (name.to_string(), format!("{name} cannot be read\n")))
+}
+
 /// Words of letters and digits, joined to a file's name.
 fn file_name(words: &str) -> String {
     let plain = words.replace("2^", "two_to_").replace(',', "").replace('\'', "");

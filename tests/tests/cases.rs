@@ -1,7 +1,7 @@
 //! The files of program `rivercheck` are the named cases, its expected lines
 //! are what the rules say of them, and every refusal from 1 to 5 is there.
 
-use river_tests::cases::cases;
+use river_tests::cases::{cases, unread, A_FOLDER};
 use river_tests::engine::check;
 use std::{collections::BTreeSet, fs, path::Path};
 
@@ -12,8 +12,8 @@ fn files_and_lines_are_the_cases() {
     let all = cases(&fs::read(here.join("../samples/provo.basin.bin")).unwrap());
     let stdout = fs::read_to_string(folder.join("stdout")).unwrap();
     let args = fs::read_to_string(folder.join("args")).unwrap();
-    assert_eq!(stdout.lines().count(), all.len() + 1);
-    assert_eq!(args.lines().count(), all.len() + 1);
+    assert_eq!(stdout.lines().count(), all.len() + unread().len());
+    assert_eq!(args.lines().count(), stdout.lines().count());
     for ((case, line), name) in all.iter().zip(stdout.lines()).zip(args.lines()) {
         assert_eq!(format!("{line}\n"), case.line());
         assert_eq!(name, case.name);
@@ -21,6 +21,11 @@ fn files_and_lines_are_the_cases() {
         let (number, place) = case.answer;
         assert_eq!(check(&case.file), (number, place as u32), "{name}");
     }
+    let last = args.lines().zip(stdout.lines()).skip(all.len());
+    for ((name, line), (unread, said)) in last.zip(unread()) {
+        assert_eq!((name, format!("{line}\n")), (unread.as_str(), said));
+    }
+    assert!(folder.join("data").join(A_FOLDER).is_dir());
 }
 
 #[test]

@@ -1,7 +1,7 @@
 //! Writes the files that `rivercheck` is run on, their names and what it is to
 //! print, into the folder of the program that is its one argument.
 
-use river_tests::cases::cases;
+use river_tests::cases::{cases, unread, A_FOLDER};
 use std::{env, fs, path::Path};
 
 fn main() -> std::io::Result<()> {
@@ -13,8 +13,10 @@ fn main() -> std::io::Result<()> {
     for case in &all {
         fs::write(folder.join("data").join(&case.name), &case.file)?;
     }
-    let names: Vec<_> = all.iter().map(|case| format!("{}\n", case.name)).collect();
-    fs::write(folder.join("args"), names.concat() + "no_such_file\n")?;
-    let lines: Vec<_> = all.iter().map(|case| case.line()).collect();
-    fs::write(folder.join("stdout"), lines.concat() + "no_such_file cannot be opened\n")
+    fs::create_dir_all(folder.join("data").join(A_FOLDER))?;
+    fs::write(folder.join("data").join(A_FOLDER).join("october.basin.bin"), &all[0].file)?;
+    let named = all.iter().map(|case| (case.name.clone(), case.line()));
+    let (names, lines): (Vec<_>, Vec<_>) = named.chain(unread()).unzip();
+    fs::write(folder.join("args"), names.join("\n") + "\n")?;
+    fs::write(folder.join("stdout"), lines.concat())
 }

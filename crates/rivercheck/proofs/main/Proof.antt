@@ -19,6 +19,9 @@ loop-holds c = search needs
 check-argument-requires : tie.Need-check-argument-requires Inv-loop μ-loop
 check-argument-requires c κs = search needs
 
+returns : tie.Need-returns Inv-loop μ-loop
+returns c = search needs
+
 add-i : tie.Need-add-i Inv-loop μ-loop
 add-i c = search needs
 
@@ -28,8 +31,8 @@ loop-less c = search needs
 loop-again : tie.Need-loop-again Inv-loop μ-loop
 loop-again c = search needs
 
-returns : tie.Need-returns Inv-loop μ-loop
-returns c = search needs
+returns-2 : tie.Need-returns-2 Inv-loop μ-loop
+returns-2 c = search needs
 
 pub main-spec : {M : Type 1} → statement M
 main-spec =
@@ -40,7 +43,8 @@ main-spec =
     arg-count-requires
     loop-holds
     check-argument-requires
+    returns
     add-i
     loop-less
     loop-again
-    returns)
+    returns-2)
