@@ -25,8 +25,8 @@ fn check_last(stations: &[u8], last: usize) -> Verdict
     Verdict::Station(last)
 }
 
-// The first row at fault, which a row above the last is where it finds no row to go on to. The rows that are found fill the table, by which
-// the rights' rules walk down the river; the last row's place keeps the number that stands for none.
+// The first row at fault. A row above the last has to find a row to go on to; what it finds goes into the table, by which the rights' rules
+// walk down the river. The last row's place keeps the number that stands for none.
 pub fn check_stations(stations: &[u8], below: &mut [u8; 64]) -> Verdict
     requires { ⌜ (0 < rowsOf (now stations)) × (rowsOf (now stations) ≤ 64) × (now below ≡ replicate 64 255) ⌝ }
     ensures { λ r. ⌜ r ≡ stationsVerdict (now (stations .entry)) Verdict.Accepted ⌝ }
