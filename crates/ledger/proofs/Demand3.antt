@@ -21,7 +21,7 @@ use Rattle.rules.specs.Accepted.{Accepted}
 use Rattle.rules.specs.Theorems.{Possible}
 use Rattle.rules.proofs.Months.{month-ok, month-length}
 use Rattle.rules.proofs.Names.{firstOf, Named, TurnNamed, month-named}
-use Rattle.rules.proofs.Bounds.{begun-possible, call-possible}
+use Rattle.rules.proofs.Possible.{begun-possible, call-possible}
 use Rattle.rules.proofs.Theorems.{water, checkpoints}
 use Rattle.basin.specs.declared.Verdict.the-variants.{Accepted as AcceptedFile}
 use Rattle.records.specs.Records.{basinOf}

@@ -17,7 +17,7 @@ use Rattle.rules.specs.Month.{MonthRun, month}
 use Rattle.rules.specs.Tally.{Call, Tally, freshCarried, freshStart, begun, pending, arriving, nextRun, accept, standing}
 use Rattle.rules.specs.Accepted.{Accepted}
 use Rattle.rules.specs.Theorems.{mostDue, Possible}
-use Rattle.rules.proofs.Bounds.{capped-of, fresh-possible}
+use Rattle.rules.proofs.Possible.{capped-of, fresh-possible}
 use Rattle.rules.proofs.Pending.{pending-on, pending-ends, pending-begins}
 use Rattle.boards.specs.Board.{storageAt, marksAt, takenAt, dueAt, carriedOf, placeOf, boardOf, possible}
 use Rattle.boards.specs.Calls.{freshBoard, runOf, dueAfter, boardAfter}

@@ -8,6 +8,7 @@ pub mod Pending
 pub mod Resumed
 pub mod Sums
 pub mod Bounds
+pub mod Possible
 pub mod Names
 pub mod October
 pub mod Theorems

@@ -13,7 +13,7 @@ use Rattle.rules.proofs.Resumed.{resumes}
 use Rattle.rules.proofs.Pending.{pending-on, pending-ends, pending-begins}
 use Rattle.rules.proofs.Sums.{begun-ok, calls-ok, calls-start, water-kept}
 use Rattle.rules.proofs.October.{october-facts}
-use Rattle.rules.proofs.Bounds.{fresh-facts, begun-possible, calls-possible}
+use Rattle.rules.proofs.Possible.{fresh-facts, begun-possible, calls-possible}
 
 pub splitting : Splitting
 splitting a ps h = shares-sum a ps h
