@@ -1,4 +1,4 @@
--- The report of a month: a list of numbers of which a month writes the first, and keeps the rest (01, "The report holds").
+-- The report of a month: a list of numbers of which a month writes the first, and keeps the rest (01, "The board and one month").
 use mathlib.Core.Bool.{cond}
 use mathlib.Core.List.{List, [], _++_}
 use Prim.Native.Nat.{ℕ, _+_, _-_, _*_, _/_, _%_}
@@ -22,7 +22,8 @@ grantAt h i = getD (grantsOf (h .turns)) i noGrant
 unfoldable pub grantNumber : Grant → ℕ → ℕ → ℕ
 grantNumber g station q = cond (eqb q 0) (g .fromRiver) (cond (eqb q 1) (g .fromStorage) (cond (eqb q 2) (reasonNumber (g .reason)) station))
 
--- per row: flow, available flow; neither is negative (theorem `Water`), so the number is the flow itself
+-- per row: flow, available flow. The rules reckon them with a sign. In a month from a possible board neither is negative (theorem `Checkpoints` of
+-- `ledger/specs/Account`), so that the number told is the flow itself, as the claim says there (`Tells`).
 unfoldable pub levelNumber : Level → ℕ → ℕ
 levelNumber x q = cond (eqb q 0) (natAbs (x .flow)) (natAbs (x .available))
 

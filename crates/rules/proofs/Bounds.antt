@@ -37,7 +37,7 @@ module _ (b : Basin) (r : Right) (s : State) where
       let h : only (not (markOf r s)) x ≤ x = only-le (not (markOf r s)) x in
       (le-trans h (omega arith), le-trans h (omega arith), le-trans h (omega arith))
 
-  demand-le : (k : Kind) (m i : ℕ) → demand k b m i r s ≤ scheduled m r
+  pub demand-le : (k : Kind) (m i : ℕ) → demand k b m i r s ≤ scheduled m r
   unfolding demand
   demand-le direct m i = omega arith
   demand-le project m i = omega arith

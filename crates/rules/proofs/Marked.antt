@@ -1,19 +1,30 @@
 -- The list marked M and the cases beside it, computed. Assumes nothing.
-use mathlib.Core.Path.{refl}
-use Prim.Native.Nat.{_^_}
+use mathlib.Core.Path.{_≡_, refl}
+use Prim.Native.Nat.{ℕ, _^_}
 use native.Mathlib.Nat.{zero-div}
+use native.Mathlib.Omega.{arith}
 use Rattle.general.specs.Sums.{sumOver, sumOverℤ, sumTo}
 use Rattle.general.specs.Tables.{tab}
 use Rattle.general.specs.Routes.{follow}
 use Rattle.general.specs.Tests.{_and_, has, firstAt}
+use Rattle.rules.specs.Basin.{Kind, Right, Basin}
 use Rattle.rules.specs.Path.{carriesOn, rowBelow, path, untilRow}
 use Rattle.rules.specs.River.{diverted, reserved, released, returned, along, lowest, lesser}
 use Rattle.rules.specs.Returns.{consumption, returning, sharesFrom, shares, partsAt, partsOf, lagged, returnNow, returnedAt}
-use Rattle.rules.specs.Turn.{bit, scheduled, demand, anyOn, called, divertible, riverPart, withLevels, afterDiversion, riverStage, storagePart, storageStage, returnStage, shortage, reasonOf, keepIf, lowestOn, lowRows, numberAt, controlling, turn}
+use Rattle.rules.specs.Turn.{State, bit, scheduled, demand, anyOn, called, divertible, riverPart, withLevels, afterDiversion, riverStage, storagePart, storageStage, returnStage, shortage, reasonOf, keepIf, lowestOn, lowRows, numberAt, controlling, turn}
 use Rattle.rules.specs.Month.{gathered, openingLevels, opening, turns, afterTurns, consumedBy, returnedBy, returnsAt, areaFrom, areaAt, evaporation, evaporations, evaporated, nextMonth, month, reasonNumber, isShort, shortCount}
 use Rattle.rules.specs.Tally.{listsFit, overLimit, overAnswer, judged, refusal, freshCarried, freshStart, begun, stillDue, pendingFrom, pending, arriving, nextRun, accept, afterJudged, afterCall, afterCalls, answerJudged, answerOf, answers}
 use Rattle.rules.specs.Water.{totalRunoff, totalOutflow, totalConsumption, totalEvaporation, inTransit, startingStorage, startingDues}
 use Rattle.rules.specs.Marked.{Computed}
+use Rattle.rules.proofs.Bounds.{demand-le}
+
+-- a right that uses no month asks nothing
+unscheduled : (m : ℕ) (r : Right) → r .months ≡ 0 → scheduled m r ≡ 0
+unfolding scheduled bit
+unscheduled m r e = rw (e, zero-div (2 ^ m))
+
+asks-nothing : (k : Kind) (b : Basin) (m i : ℕ) (r : Right) (s : State) → r .months ≡ 0 → demand k b m i r s ≡ 0
+asks-nothing k b m i r s e = omega (arith, demand-le b r s k m i, unscheduled m r e)
 
 pub computed : Computed
 unfolding sumOver sumOverℤ sumTo tab _and_ has firstAt follow carriesOn rowBelow path untilRow diverted reserved released returned along lowest lesser consumption returning sharesFrom shares partsAt partsOf lagged returnNow returnedAt bit scheduled demand anyOn called divertible riverPart withLevels afterDiversion riverStage storagePart storageStage returnStage shortage reasonOf keepIf lowestOn lowRows numberAt controlling turn gathered openingLevels opening turns afterTurns consumedBy returnedBy returnsAt areaFrom areaAt evaporation evaporations evaporated nextMonth month reasonNumber isShort shortCount listsFit overLimit overAnswer judged refusal freshCarried freshStart begun stillDue pendingFrom pending arriving nextRun accept afterJudged afterCall afterCalls answerJudged answerOf answers totalRunoff totalOutflow totalConsumption totalEvaporation inTransit startingStorage startingDues
@@ -35,7 +46,7 @@ computed = record {
     area-1999 = refl;
     area-2000 = refl;
     area-7500 = refl;
-    no-month = λ m. rw (zero-div (2 ^ m));
+    no-month = asks-nothing;
     below-100 = refl;
   };
   told = record {
@@ -54,5 +65,6 @@ computed = record {
     started-evaporation = refl;
     started-month = refl;
     refusals = refl;
+    refused-no-month = refl;
   };
 }

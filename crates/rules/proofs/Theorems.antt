@@ -3,7 +3,7 @@ use Rattle.general.specs.Tables.{tab}
 use Rattle.rules.specs.Basin.{rows}
 use Rattle.rules.specs.Tally.{begun, afterCalls}
 use Rattle.rules.specs.Turn.{pathOf}
-use Rattle.rules.specs.River.{lowest}
+use Rattle.rules.specs.River.{availableAt, lowest}
 use Rattle.rules.specs.Theorems.{Splitting, Paths, Fresh, Water, StartKept, Checkpoints, Unclipped, PendingOn, PendingEnds, PendingBegins, AlwaysPossible, Resumed, OctoberAccepted}
 use Rattle.rules.proofs.Path.{path-ends, path-once, path-rising}
 use Rattle.rules.proofs.River.{lesser-signed, lowest-least}
@@ -35,7 +35,10 @@ pub checkpoints : Checkpoints
 checkpoints b acc s p runoff = (month-ok b acc (s .carried) (p .storages-count) runoff (tab (rows b) (λ w. s .due w 1))) .sound
 
 pub unclipped : Unclipped
-unclipped b r s a k = lesser-signed a (lowest (s .levels) (pathOf b r)) (lowest-least (s .levels) (pathOf b r) (k .sound))
+unclipped b r s a k = record {
+  on-path = lesser-signed a (lowest (s .levels) (pathOf b r)) (lowest-least (s .levels) (pathOf b r) (k .sound));
+  at-row = lesser-signed a (availableAt (s .levels) (r .row)) (k .sound (r .row) .not-negative);
+}
 
 pub pendingOn : PendingOn
 pendingOn b s hs h w k l = pending-on b s h w hs k l

@@ -1,17 +1,18 @@
--- 01's list marked M, as one claim: each field is an item. After it, as a second claim, small cases that October does not tell apart from a slip.
+-- The list marked M (01, "One October, whole") as one claim: each field is an item. After it, as a second claim, small cases that October does not tell
+-- apart from a slip.
 use mathlib.Core.Path.{_≡_}
 use mathlib.Core.Bool.{true, false}
 use mathlib.Core.List.{List, [], _∷_}
 use mathlib.Core.Option.{some}
 use Prim.Native.Nat.{ℕ, suc, _+_, _-_}
-use lib.ListN.{getD, replicate}
+use lib.ListN.{length, getD, replicate}
 use lib.IntN.{pos}
 use Rattle.general.specs.Tables.{tab}
-use Rattle.rules.specs.Basin.{Station, Reservoir, direct, project, Basin}
+use Rattle.rules.specs.Basin.{Station, Reservoir, Kind, direct, project, Right, Basin}
 use Rattle.rules.specs.Path.{rowBelow, path}
 use Rattle.rules.specs.River.{Level}
 use Rattle.rules.specs.Returns.{consumedAt, shares}
-use Rattle.rules.specs.Turn.{State, met, calledOut, riverLow, storageOut, Grant, scheduled}
+use Rattle.rules.specs.Turn.{State, met, calledOut, riverLow, storageOut, Grant, demand}
 use Rattle.rules.specs.Month.{opening, grantsOf, areaAt, MonthRun}
 use Rattle.rules.specs.Tally.{Call, Start, Tally, fresh, begun, pending, nextRun, afterCalls, answers}
 use Rattle.rules.specs.Water.{totalRunoff, totalOutflow, totalConsumption, totalEvaporation, inTransit, startingStorage, startingDues}
@@ -56,8 +57,8 @@ pub record Marked : Type 0 where
   pub area-1999 : areaAt octoberReservoir 1999 ≡ 10
   pub area-2000 : areaAt octoberReservoir 2000 ≡ 20
   pub area-7500 : areaAt octoberReservoir 7500 ≡ 40
-  -- months word 0 asks 0
-  pub no-month : (m : ℕ) → scheduled m (record { permit = 1; date = 18900501; kind = direct; row = 0; reservoir = 255; efficiency = 100; pattern = 255; months = 0; limit = 0; amounts = replicate 12 100; points = [] }) ≡ 0
+  -- months word 0 asks 0: of every kind, in every basin, month and state
+  pub no-month : (k : Kind) (b : Basin) (m i : ℕ) (r : Right) (s : State) → r .months ≡ 0 → demand k b m i r s ≡ 0
   -- the row below 100 is 200
   pub below-100 : rowBelow octoberStations 0 ≡ some 1
 
@@ -80,7 +81,8 @@ lake capacity start depth = record {
   depths = replicate 12 depth;
 }
 
--- A senior at the second row lacks water. A project right at the first row, called, lives from storage and returns all of it at once. A junior at the first row finds water in the river, and gets none, for it is called.
+-- A senior at the second row lacks water. A project right at the first row, called out, lives from storage and returns all of it at once. A junior at the
+-- first row finds water in the river, and gets none, for it is called out.
 abbrev pub calledBasin : Basin
 calledBasin = record {
   stations = twoStations;
@@ -128,6 +130,16 @@ january = record { carried = record { m = 3; storages = 30 ∷ []; marks = false
 abbrev pub afterJanuary : Tally
 afterJanuary = afterCalls shallowBasin (begun january) (sheet 100 0 ∷ [])
 
+-- four calls that are refused, and one that is accepted
+abbrev pub mixedCalls : List Call
+mixedCalls =
+    record { runoff = 100 ∷ []; report = 27 }
+    ∷ record { runoff = 0 ∷ 0 ∷ []; report = 12 }
+    ∷ sheet 0 1_000_000_001
+    ∷ sheet 1_000_000_001 1_000_000_001
+    ∷ sheet 100 0
+    ∷ []
+
 pub record Told : Type 0 where
   -- the path goes by order, not by the next row
   pub path-by-order : path branchedStations 0 ≡ 0 ∷ 2 ∷ 3 ∷ []
@@ -155,9 +167,10 @@ pub record Told : Type 0 where
   pub started-sum : totalRunoff (afterJanuary .months) + (startingStorage (afterJanuary .start) + startingDues shallowBasin (afterJanuary .start)) ≡ 142
   pub started-evaporation : totalEvaporation (afterJanuary .months) ≡ 30
   pub started-month : (afterJanuary .carried) .m ≡ 4
-  -- refusals: 6 for a short sheet or report, 8 with the first row over the limit; they change nothing
-  pub refusals : answers filledBasin (fresh filledBasin) (record { runoff = 100 ∷ []; report = 27 } ∷ record { runoff = 0 ∷ 0 ∷ []; report = 12 } ∷ sheet 0 1_000_000_001 ∷ sheet 1_000_000_001 1_000_000_001 ∷ sheet 100 0 ∷ [])
+  -- refusals: 6 for a short sheet or report, 8 with the first row over the limit; of the five calls one is a month
+  pub refusals : answers filledBasin (fresh filledBasin) mixedCalls
       ≡ record { number = 6; place = 0 } ∷ record { number = 6; place = 0 } ∷ record { number = 8; place = 1 } ∷ record { number = 8; place = 0 } ∷ record { number = 0; place = 0 } ∷ []
+  pub refused-no-month : length ((afterCalls filledBasin (fresh filledBasin) mixedCalls) .months) ≡ 1
 
 -- both, computed in one place: proofs/Marked.antt
 pub record Computed : Type 0 where

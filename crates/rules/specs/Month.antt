@@ -1,4 +1,4 @@
--- One month: steps 1 to 5 of 01.
+-- One month (01, "The board and one month"), step by step.
 use mathlib.Core.Bool.{Bool, false, not, cond}
 use mathlib.Core.List.{List, [], _∷_, map}
 use Prim.Native.Nat.{ℕ, suc, _+_, _-_, _*_, min}
@@ -23,15 +23,15 @@ pub record Carried : Type 0 where
 
 -- ---- steps 1 and 2: the river before the first right
 
--- At a row flow is runoff plus the returns that arrive, summed over all rows whose path holds it.
+-- Through row i flows what enters at it and above it: of every row upstream of it, and of its own, the runoff and the returns that arrive.
 unfoldable pub gathered : Basin → List ℕ → List ℕ → ℕ → ℕ
 gathered b runoff arriving i = sumTo (rows b) (λ j. only (has i (path (b .stations) j)) (getD runoff j 0 + getD arriving j 0))
 
--- Available flow starts equal to flow.
+-- Before the first right all of the flow is available.
 unfoldable pub openingLevels : Basin → List ℕ → List ℕ → List Level
 openingLevels b runoff arriving = tab (rows b) (λ i. let z : ℤ = pos (gathered b runoff arriving i) in record { flow = z; available = z })
 
--- At m = 0 taken and marks become 0. Nobody is short yet.
+-- In October a new water year begins, without water taken and without filled marks. Nobody is short yet.
 unfoldable pub opening : Basin → Carried → List ℕ → List ℕ → State
 opening b c runoff arriving = record {
   levels = openingLevels b runoff arriving;
@@ -67,7 +67,7 @@ returnsAt b ts w s = sumOver (returnedBy b w s) ts
 
 -- ---- step 4: evaporation
 
--- the area at a storage: that of the highest table pair whose storage is not above it
+-- the area at a storage x: that of the last pair of the area-capacity table that x reaches
 unfoldable pub areaFrom : ℕ → List Survey → ℕ → ℕ
 areaFrom found [] x = found
 areaFrom found (p ∷ ps) x = areaFrom (cond (leb (p .content) x) (p .area) found) ps x
@@ -75,7 +75,7 @@ areaFrom found (p ∷ ps) x = areaFrom (cond (leb (p .content) x) (p .area) foun
 unfoldable pub areaAt : Reservoir → ℕ → ℕ
 areaAt v x = areaFrom 0 (v .surveys) x
 
--- area × depth of month m, at most the storage
+-- what month m takes off that area, as far as there is water
 unfoldable pub evaporation : ℕ → Reservoir → ℕ → ℕ
 evaporation m v x = min x (areaAt v x * getD (v .depths) m 0)
 
@@ -96,7 +96,7 @@ pub record MonthRun : Type 0 where
   pub evaporation : List ℕ
   pub carried : Carried
 
--- Step 5: m goes on, 11 to 0.
+-- Step 5: the next month; after September comes October.
 unfoldable pub nextMonth : ℕ → ℕ
 nextMonth m = cond (eqb m 11) 0 (suc m)
 

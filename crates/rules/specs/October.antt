@@ -1,4 +1,4 @@
--- 01's "One October, whole", as a basin and one call. What 01 leaves open: no evaporation outside October, the same amounts in all months.
+-- The worked month of 01, "One October, whole", as a basin and one call. What it leaves open: no evaporation in other months, the same amounts in all.
 use mathlib.Core.List.{List, [], _∷_}
 use Prim.Native.Nat.{ℕ}
 use lib.ListN.{replicate}

@@ -9,15 +9,15 @@ use Rattle.general.specs.Routes.{follow}
 use Rattle.general.specs.Tests.{firstAt}
 use Rattle.rules.specs.Basin.{Station, Basin, rows, stationAt}
 
--- whether row j has order o or o − 1
+-- whether row j carries on a river of order o: it has that order, or one less
 unfoldable pub carriesOn : List Station → ℕ → ℕ → Bool
 carriesOn st o j = let x : ℕ = (stationAt st j) .order in eqb x o || eqb (suc x) o
 
--- The row below (the next station downstream) is the first later row with the row's order or one less.
+-- The row below (the next station downstream): of the rows after this one, the first that carries its river on.
 unfoldable pub rowBelow : List Station → ℕ → Option ℕ
 rowBelow st r = firstAt (length st - suc r) (suc r) (carriesOn st ((stationAt st r) .order))
 
--- The path of a row is that row, followed by the path of the row below: its station and all those downstream of it.
+-- The path of a row: its station and all those downstream of it, down to the outlet.
 unfoldable pub path : List Station → ℕ → List ℕ
 path st r = follow (rowBelow st) (length st) r
 

@@ -1,4 +1,4 @@
--- What a diversion consumes, and where and when the rest returns (01, step 3, kinds 1 and 2).
+-- What a diversion consumes, and where and when the rest returns (01, "The board and one month", step 3).
 use mathlib.Core.List.{List, [], _∷_, map}
 use Prim.Native.Nat.{ℕ, _+_, _-_, _*_, _/_}
 use lib.Dec.{eqb}
@@ -8,11 +8,11 @@ use Rattle.rules.specs.Basin.{Station, Point, Kind, direct, project, ins
 use Rattle.rules.specs.Path.{path}
 use Rattle.rules.specs.River.{Level, along, returned}
 
--- consumption of a diversion d at efficiency e: floor (d × e / 100)
+-- what a diversion d consumes at efficiency e, in whole units
 abbrev pub consumedAt : ℕ → ℕ → ℕ
 consumedAt d e = d * e / 100
 
--- Kinds 1 and 2 consume and return; kinds 3 and 4 do neither.
+-- Direct and project rights use water up and return the rest; instream and storage rights do neither.
 unfoldable pub consumption : Kind → Right → ℕ → ℕ
 consumption direct r d = consumedAt d (r .efficiency)
 consumption project r d = consumedAt d (r .efficiency)
@@ -27,7 +27,8 @@ returning storage r d = 0
 
 -- ---- splitting by percents
 
--- With C the sum of percents up to and including a share's own, a share of a is floor (a × C / 100) less the same for the share before; c is C of the share before.
+-- The shares of an amount a. Floored are not the shares but their running totals, so that no unit is lost on the way: a share is what its percent adds to
+-- the floored total, c being the percents of all shares before it.
 unfoldable pub sharesFrom : ℕ → ℕ → List ℕ → List ℕ
 sharesFrom a c [] = []
 sharesFrom a c (p ∷ ps) = (a * (c + p) / 100 - a * c / 100) ∷ sharesFrom a (c + p) ps
@@ -58,7 +59,7 @@ partsOf k r d = partsAt (r .points) (shares (returning k r d) (percents r))
 unfoldable pub lagged : List ℕ → ℕ → Part → ℕ
 lagged pattern s q = getD (shares (q .amount) pattern) s 0
 
--- The shares of month 0 raise flow and available flow at once, along the path of the return row.
+-- What returns in the month of the diversion is in the river for the next right: it runs down from each return point.
 unfoldable pub returnNow : List Station → List ℕ → List Part → List Level → List Level
 returnNow st pattern [] l = l
 returnNow st pattern (q ∷ qs) l = returnNow st pattern qs (along (returned (lagged pattern 0 q)) (path st (q .row)) l)

@@ -57,7 +57,8 @@ lowest l [] = pos 0
 lowest l (r ∷ []) = availableAt l r
 lowest l (r ∷ q ∷ p) = lower (availableAt l r) (lowest l (q ∷ p))
 
--- The lesser of a demand and an available flow. The available flow is never negative (theorem `Unclipped`), so that the second line is never used.
+-- The lesser of a demand and an available flow. At every checkpoint the available flow is not negative (theorem `Checkpoints`), so that the second line is
+-- never used: on a right's path and at an instream right's own row this is the lesser of two signed numbers (theorem `Unclipped`).
 unfoldable pub lesser : ℕ → ℤ → ℕ
 lesser a (pos n) = min a n
 lesser a (negsuc n) = 0

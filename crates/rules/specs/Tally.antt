@@ -1,4 +1,6 @@
--- The tally of a list of month calls (01, "The tally of a list of months"). It is fed the basin, what the list starts from (02, No. 7), and each call's runoff and report length; after the start it never sees a board.
+-- The tally of a list of month calls (01, "The tally of a list of months"): a second account of the same months, which has no board to go wrong. It is fed
+-- the basin, what the list starts from, and each call's runoff and report length. 01 starts it as fresh. Here it starts from whatever a possible board
+-- holds, since a month keeps its promise on each such board; fresh is one case.
 use mathlib.Core.Bool.{Bool, true, false}
 use mathlib.Core.List.{List, [], _∷_, _++_, map}
 use mathlib.Core.Option.{Option, none, some}
@@ -15,22 +17,22 @@ pub record Call : Type 0 where
   pub runoff : List ℕ
   pub report : ℕ
 
--- number and place as in 01's table; of an accepted month 0 and the number of rights short
+-- of a refused call the number of the cause and its place (01, "Numbers for what is turned down"); of an accepted month 0 and how many rights are short
 pub record Answer : Type 0 where
   pub number : ℕ
   pub place : ℕ
 
 -- ---- which calls the rules refuse
 
--- a report has four numbers a right, two a row, one a reservoir
+-- the least room that a report needs: four numbers a right, two a row, one a reservoir
 abbrev pub reportLength : Basin → ℕ
 reportLength b = 4 * length (b .rights) + 2 * rows b + length (b .reservoirs)
 
--- 6: runoff not one to a station, or the report too short
+-- whether the lists fit the basin; if not, the call is refused by number 6
 unfoldable pub listsFit : Basin → Call → Bool
 listsFit b c = eqb (length (c .runoff)) (rows b) and leb (reportLength b) (c .report)
 
--- 8: the first row whose runoff is over its limit
+-- the first row with more runoff than a reach may have; it is the place of refusal 8
 unfoldable pub overLimit : List ℕ → Option ℕ
 overLimit runoff = firstAt (length runoff) 0 (λ i. ltb 1_000_000_000 (getD runoff i 0))
 
@@ -42,13 +44,13 @@ unfoldable pub judged : Bool → List ℕ → Option Answer
 judged true runoff = overAnswer (overLimit runoff)
 judged false runoff = some (record { number = 6; place = 0 })
 
--- The lowest number that applies; none where the call is accepted.
+-- The answer where the call is refused, none where it is accepted. Lists that do not fit come before runoff over its limit.
 unfoldable pub refusal : Basin → Call → Option Answer
 refusal b c = judged (listsFit b c) (c .runoff)
 
 -- ---- the tally
 
--- What a list of calls starts from: what is carried, and the return due at each row k months after the last finished month, k = 1 to 11.
+-- What a list of calls starts from: what is carried, and due w k, the return due at row w in the k-th month from there, k = 1 to 11.
 pub record Start : Type 0 where
   pub carried : Carried
   pub due : ℕ → ℕ → ℕ
@@ -59,11 +61,11 @@ pub record Tally : Type 0 where
   pub carried : Carried
   pub months : List MonthRun
 
--- It begins with what the start carries, without months.
+-- before the first call
 unfoldable pub begun : Start → Tally
 begun s = record { start = s; carried = s .carried; months = [] }
 
--- One start is fresh: starting storages, all else 0, nothing due.
+-- The fresh start: October, reservoirs as the basin file has them, nothing taken, filled or due.
 unfoldable pub freshCarried : Basin → Carried
 freshCarried b = record {
   m = 0;
@@ -78,20 +80,21 @@ freshStart b = record { carried = freshCarried b; due = λ w k. 0 }
 abbrev pub fresh : Basin → Tally
 fresh b = begun (freshStart b)
 
--- of the months hs, counted from j on: the shares returned at row w, s months after a grant of month j, with j + s = z
+-- of the months hs, the first of them being month j: what their grants return at row w in month z
 unfoldable pub pendingFrom : Basin → ℕ → List MonthRun → ℕ → ℕ → ℕ
 pendingFrom b j [] z w = 0
 pendingFrom b j (h ∷ hs) z w = sumTo 12 (λ s. only (eqb (j + s) z) (returnsAt b (h .turns) w s)) + pendingFrom b (suc j) hs z w
 
--- of the start's dues, what is not used z months after: what was due at z, where that is at most 11
+-- of the start's dues at row w, what returns in month z: nothing is due after more than eleven months
 unfoldable pub stillDue : Start → ℕ → ℕ → ℕ
 stillDue s w z = only (ltb z 12) (s .due w z)
 
--- Pending (returns in transit) after n accepted months, at row w for k: what the start had due at n + k, and the shares with j + s = n + k.
+-- Pending (returns in transit) at row w, k months from the last of the months hs: what the start had due for that month, and what the grants since return
+-- in it. Month 1 is the first after the start.
 unfoldable pub pending : Basin → Start → List MonthRun → ℕ → ℕ → ℕ
 pending b s hs w k = stillDue s w (length hs + k) + pendingFrom b 1 hs (length hs + k) w
 
--- An accepted call runs steps 1 to 5 with pending in place of dues: what is pending at k = 1 arrives.
+-- The returns that arrive in the coming month, where a board has its dues: the tally works them out anew each time.
 unfoldable pub arriving : Basin → Start → List MonthRun → List ℕ
 arriving b s hs = tab (rows b) (λ w. pending b s hs w 1)
 
@@ -101,11 +104,11 @@ nextRun b t c = month b (t .carried) (c .runoff) (arriving b (t .start) (t .mont
 unfoldable pub accept : Basin → Tally → Call → Tally
 accept b t c = record { start = t .start; carried = (nextRun b t c) .carried; months = t .months ++ (nextRun b t c ∷ []) }
 
--- Where the tally stands: what is carried and pending. A list of calls can start from there.
+-- Where the tally stands: what is carried and what is pending. Another list of calls can start from there.
 unfoldable pub standing : Basin → Tally → Start
 standing b t = record { carried = t .carried; due = pending b (t .start) (t .months) }
 
--- A call that the rules refuse changes nothing.
+-- A refused call is no month, and leaves the tally as it was.
 unfoldable pub afterJudged : Option Answer → Basin → Tally → Call → Tally
 afterJudged none b t c = accept b t c
 afterJudged (some a) b t c = t

@@ -10,7 +10,7 @@ use Rattle.general.specs.Tables.{tab, Rising}
 use Rattle.general.specs.Tests.{has}
 use Rattle.rules.specs.Basin.{Reservoir, Right, Basin, rows, reservoirAt, rightAt}
 use Rattle.rules.specs.Path.{path, untilRow, lastRow}
-use Rattle.rules.specs.River.{lower, lowest, lesser}
+use Rattle.rules.specs.River.{availableAt, lower, lowest, lesser}
 use Rattle.rules.specs.Returns.{shares}
 use Rattle.rules.specs.Turn.{State, pathOf}
 use Rattle.rules.specs.Month.{returnsAt, MonthRun, month}
@@ -35,9 +35,9 @@ pub record PathFacts (b : Basin) (r : ℕ) : Type 0 where
 abbrev pub Paths : Type 0
 Paths = (b : Basin) → Connected b → (r : ℕ) → r < rows b → PathFacts b r
 
--- ---- what a list of calls may start from: what 01 asks of a possible board
+-- ---- what a list of calls may start from: what is asked of a possible board (01, "The board and one month")
 
--- due at k is at most (12 − k) × 256,000,000,000
+-- The most that can be due k months on: shares of 12 − k past months come due then, each month with up to 256 grants of the largest amount.
 abbrev pub mostDue : ℕ → ℕ
 mostDue k = (12 - k) * 256_000_000_000
 
@@ -68,13 +68,23 @@ Water = (b : Basin) → Accepted b → (s : Start) → Possible b s → (cs : Li
 abbrev pub StartKept : Type 0
 StartKept = (b : Basin) (s : Start) (cs : List Call) → (afterCalls b (begun s) cs) .start ≡ s
 
--- The checkpoints of any month run from a possible start.
+-- ---- checkpoints: in no month does a row have negative flow, or more available flow than flow
+
+-- For any basin with the facts of an accepted one, any possible start and any runoff, within its limit or not: before the first right, and in each right's
+-- turn after its river part, after its part from storage and after its returns.
 abbrev pub Checkpoints : Type 0
 Checkpoints = (b : Basin) → Accepted b → (s : Start) → Possible b s → (runoff : List ℕ) → MonthSound b (month b (s .carried) runoff (tab (rows b) (λ w. s .due w 1)))
 
--- Where a checkpoint holds, the lesser of a demand and the lowest available flow is the lesser as signed numbers: nothing is cut off at 0.
+-- Of a right that asks a in state s: the lesser of a and an available flow, as a signed number, with nothing cut off at 0.
+pub record Uncut (b : Basin) (r : Right) (s : State) (a : ℕ) : Type 0 where
+  -- against the lowest available flow on the path, as direct, project and storage rights take it
+  pub on-path : pos (lesser a (lowest (s .levels) (pathOf b r))) ≡ lower (pos a) (lowest (s .levels) (pathOf b r))
+  -- against the available flow at the right's own row, as an instream right takes it
+  pub at-row : pos (lesser a (availableAt (s .levels) (r .row))) ≡ lower (pos a) (availableAt (s .levels) (r .row))
+
+-- It is so wherever a checkpoint holds; each right has its turn at one, before the first right or after the returns of the right before it.
 abbrev pub Unclipped : Type 0
-Unclipped = (b : Basin) (r : Right) (s : State) (a : ℕ) → Checkpoint b s → pos (lesser a (lowest (s .levels) (pathOf b r))) ≡ lower (pos a) (lowest (s .levels) (pathOf b r))
+Unclipped = (b : Basin) (r : Right) (s : State) (a : ℕ) → Checkpoint b s → Uncut b r s a
 
 -- ---- pending, one month on: what was pending at k + 1, and what the grants of the new month return after k months
 
@@ -89,7 +99,7 @@ PendingEnds = (b : Basin) (s : Start) (hs : List MonthRun) (w k : ℕ) → 12 �
 abbrev pub PendingBegins : Type 0
 PendingBegins = (b : Basin) (s : Start) (w k : ℕ) → k < 12 → pending b s [] w k ≡ s .due w k
 
--- ---- what the tally keeps is always possible, and may be started from (01, "The board and one month")
+-- ---- what the tally keeps is always possible, and may be started from
 
 abbrev pub AlwaysPossible : Type 0
 AlwaysPossible = (b : Basin) → Accepted b → (s : Start) → Possible b s → (cs : List Call) → Possible b (standing b (afterCalls b (begun s) cs))
@@ -103,7 +113,7 @@ pub record SameStanding (b : Basin) (t u : Tally) : Type 0 where
 abbrev pub Resumed : Type 0
 Resumed = (b : Basin) (t : Tally) (cs : List Call) → SameStanding b (afterCalls b (begun (standing b t)) cs) (afterCalls b t cs)
 
--- ---- the facts asked of a basin are met: by 01's October
+-- ---- the facts asked of a basin are met: by the basin of 01, "One October, whole"
 
 abbrev pub OctoberAccepted : Type 0
 OctoberAccepted = Accepted october

@@ -1,4 +1,4 @@
--- The turn of one right in a month (01, step 3), in three stages: its river part, its part from storage, its returns.
+-- The turn of one right in a month (01, "The board and one month", step 3), in three stages: its river part, its part from storage, its returns.
 use mathlib.Core.Bool.{Bool, true, false, not, cond, _&&_, _||_}
 use mathlib.Core.List.{List, [], _∷_, map}
 use Prim.Native.Nat.{ℕ, _+_, _-_, _/_, _%_, _^_, min}
@@ -29,16 +29,16 @@ storageOf r s = getD (s .storages) (r .reservoir) 0
 abbrev pub markOf : Right → State → Bool
 markOf r s = getD (s .marks) (r .reservoir) false
 
--- ---- the demand (01's ask)
+-- ---- the demand, which 01 calls ask
 
 unfoldable pub bit : ℕ → ℕ → Bool
 bit w m = eqb (w / 2 ^ m % 2) 1
 
--- The amount of month m if bit m of the months word is set, else 0.
+-- what the diversion schedule has for month m; nothing in a month that the right does not use
 unfoldable pub scheduled : ℕ → Right → ℕ
 scheduled m r = only (bit (r .months) m) (getD (r .amounts) m 0)
 
--- For kind 4 the least of that, what the yearly limit leaves and what the capacity leaves; 0 under a filled mark.
+-- A storage right wants no more than its yearly limit and its reservoir have room for, and nothing once the reservoir was filled this year.
 unfoldable pub demand : Kind → Basin → ℕ → ℕ → Right → State → ℕ
 demand direct b m i r s = scheduled m r
 demand project b m i r s = scheduled m r
@@ -55,15 +55,15 @@ unfoldable pub anyOn : List Bool → List ℕ → Bool
 anyOn f [] = false
 anyOn f (q ∷ p) = getD f q false || anyOn f p
 
--- Called: a right already short this month has its row on this right's path.
+-- Called out: at its own row or downstream, a right served before it this month went short.
 unfoldable pub called : Basin → Right → State → Bool
 called b r s = anyOn (s .short) (pathOf b r)
 
--- 0 if called, else the lesser of the demand and the lowest available flow on the path.
+-- A right that is called out diverts nothing; any other up to its demand, as far as every row downstream can spare it.
 unfoldable pub divertible : Basin → Right → State → ℕ → ℕ
 divertible b r s a = only (not (called b r s)) (lesser a (lowest (s .levels) (pathOf b r)))
 
--- Kind 3 is never called, and its grant is the lesser of the demand and the available flow at its row.
+-- An instream right takes no water away, so that it is not called out and looks at its own row alone.
 unfoldable pub riverPart : Kind → Basin → Right → State → ℕ → ℕ
 riverPart direct b r s a = divertible b r s a
 riverPart project b r s a = divertible b r s a
@@ -73,11 +73,12 @@ riverPart storage b r s a = divertible b r s a
 unfoldable pub withLevels : State → List Level → State
 withLevels s l = record { levels = l; storages = s .storages; marks = s .marks; taken = s .taken; short = s .short }
 
--- the river part d leaves flow and available flow all along the path
+-- the levels once d is diverted: every row downstream lacks it
 unfoldable pub afterDiversion : Basin → Right → ℕ → State → List Level
 afterDiversion b r d s = along (diverted d) (pathOf b r) (s .levels)
 
--- Kind 3 lowers the available flow at its row only. Kind 4 adds its part to storage and to taken; a grant above 0 that fills the reservoir sets the mark.
+-- What an instream right is granted stays in the river and is spoken for at its row. What a storage right is granted is stored, and counts against its
+-- yearly limit; if it fills the reservoir, the year's one fill is done. A right that got nothing fills nothing.
 unfoldable pub riverStage : Kind → Basin → ℕ → Right → ℕ → State → State
 riverStage direct b i r d s = withLevels s (afterDiversion b r d s)
 riverStage project b i r d s = withLevels s (afterDiversion b r d s)
@@ -92,14 +93,14 @@ riverStage storage b i r d s = record {
 
 -- ---- the part from storage
 
--- Kind 2 takes the rest of its demand from storage as far as it lasts; the other kinds take nothing.
+-- What the river did not give, a project right draws from its reservoir while there is water in it.
 unfoldable pub storagePart : Kind → Right → State → ℕ → ℕ
 storagePart direct r s a = 0
 storagePart project r s a = min a (storageOf r s)
 storagePart instream r s a = 0
 storagePart storage r s a = 0
 
--- The release x raises the flow on the reservoir's path from its row (which 002 leaves out) to just above the right's row.
+-- The release x is in the river from the reservoir's row (which 002 leaves out) to the last row above the right's, which diverts it.
 unfoldable pub storageStage : Kind → Basin → Right → ℕ → State → State
 storageStage direct b r x s = s
 storageStage project b r x s = record {
@@ -114,7 +115,7 @@ storageStage storage b r x s = s
 
 -- ---- the returns
 
--- The shares of month 0 return at once; those of later months are read off the grant when they fall due. A short right marks its row.
+-- Returns of later months are read off the grant when they fall due. A short right is remembered by its row.
 unfoldable pub returnStage : Kind → Basin → Right → ℕ → Bool → State → State
 returnStage k b r d isShort s = record {
   levels = returnNow (b .stations) (patternOf b r) (partsOf k r d) (s .levels);
@@ -130,7 +131,8 @@ returnStage k b r d isShort s = record {
 pub data Reason : Type 0 where
   met calledOut riverLow storageOut : Reason
 
--- Of a short right: 3 for kind 2; else 1 if called; else 2. Kind 3 is never called.
+-- why a right is short: a project right because its storage ran out, an instream right because its river is low, another because it is called out or else
+-- because its river is low
 unfoldable pub shortage : Kind → Bool → Reason
 shortage direct isCalled = cond isCalled calledOut riverLow
 shortage project isCalled = storageOut
@@ -157,7 +159,9 @@ lowRows storage b r s = lowestOn (s .levels) (pathOf b r)
 unfoldable pub numberAt : List Station → ℕ → ℕ
 numberAt st r = (stationAt st r) .number
 
--- Reason 0 names station 0; 3 the reservoir's station; 1 the row of a short right on the path; 2 a row on the path with the lowest available flow before the grant (kind 3: its own row). State s is that before the grant.
+-- The station that holds a right back: where it is called out, that of a short right below; where the river is low, that of a row which could spare least
+-- before the grant (of an instream right its own); where storage ran out, the reservoir's. A right that is not short has station 0. State s is that before
+-- the grant.
 unfoldable pub controlling : Basin → Right → State → Reason → List ℕ
 controlling b r s met = 0 ∷ []
 controlling b r s calledOut = map (numberAt (b .stations)) (keepIf (λ q. getD (s .short) q false) (pathOf b r))
@@ -166,7 +170,7 @@ controlling b r s storageOut = numberAt (b .stations) ((reservoirOf b r) .row) �
 
 -- ---- the turn
 
--- A grant carries two amounts and its reason; beside them stand the stations of which the report names one.
+-- What a right is given from the river and from storage, and why no more; beside them the stations of which the report names one.
 pub record Grant : Type 0 where
   pub fromRiver : ℕ
   pub fromStorage : ℕ
@@ -185,7 +189,7 @@ pub record Turn : Type 0 where
   pub after-storage : State
   pub after-returns : State
 
--- The turn of right r, the i-th of the list, in month m. It is short if its grant, both parts together, is below its demand.
+-- The turn of right r, the i-th of the list, in month m. It is short when river and storage together gave less than it asked.
 unfoldable pub turn : Basin → ℕ → ℕ → Right → State → Turn
 turn b m i r s =
     let k : Kind = r .kind in

@@ -19,7 +19,7 @@ use Rattle.rules.specs.Tally.{Start, Tally, pending}
 unfoldable pub totalRunoff : List MonthRun → ℕ
 totalRunoff hs = sumOver (λ (h : MonthRun). sum (h .runoff)) hs
 
--- outflow: the flow at the last row after step 3
+-- outflow: what leaves the basin at its outlet, once all rights are served
 unfoldable pub totalOutflow : Basin → List MonthRun → ℤ
 totalOutflow b hs = sumOverℤ (λ (h : MonthRun). flowAt ((h .closed) .levels) (lastRow b)) hs
 
@@ -29,11 +29,11 @@ totalConsumption hs = sumOver (λ (h : MonthRun). sumOver consumedBy (h .turns))
 unfoldable pub totalEvaporation : List MonthRun → ℕ
 totalEvaporation hs = sumOver (λ (h : MonthRun). sum (h .evaporation)) hs
 
--- returns still on their way: pending over all rows and k = 1 to 11
+-- returns in transit: all that is pending, at every row and for each of the next eleven months
 unfoldable pub inTransit : Basin → Start → List MonthRun → ℕ
 inTransit b s hs = sumTo (rows b) (λ w. sumTo 11 (λ k. pending b s hs w (suc k)))
 
--- ---- the start: its storages, and its dues over all rows and k = 1 to 11
+-- ---- the start: its storages, and its dues at every row for each of the next eleven months
 
 unfoldable pub startingStorage : Start → ℕ
 startingStorage s = sum ((s .carried) .storages)
@@ -43,14 +43,14 @@ startingDues b s = sumTo (rows b) (λ w. sumTo 11 (λ k. s .due w (suc k)))
 
 -- ---- storages, by the grants
 
--- what a turn stores in reservoir v: the river part of its kind 4 rights
+-- what a turn stores in reservoir v: the river part of a storage right of it
 unfoldable pub storedBy : Kind → ℕ → Turn → ℕ
 storedBy direct v t = 0
 storedBy project v t = 0
 storedBy instream v t = 0
 storedBy storage v t = only (eqb ((t .right) .reservoir) v) ((t .grant) .fromRiver)
 
--- what a turn draws from it: the reservoir part of its kind 2 rights
+-- what a turn draws from it: the part from storage of a project right of it
 unfoldable pub drawnBy : Kind → ℕ → Turn → ℕ
 drawnBy direct v t = 0
 drawnBy project v t = only (eqb ((t .right) .reservoir) v) ((t .grant) .fromStorage)
@@ -72,7 +72,7 @@ totalDrawn v hs = sumOver (λ (h : MonthRun). drawnFrom v (h .turns)) hs
 unfoldable pub totalLost : ℕ → List MonthRun → ℕ
 totalLost v hs = sumOver (λ (h : MonthRun). getD (h .evaporation) v 0) hs
 
--- A reservoir's storage now: its storage at the start + what its kind 4 rights stored − what its kind 2 rights drew − its evaporation.
+-- A reservoir's storage now, by the grants: what it held at the start and what was stored since, without what was drawn and what evaporated.
 unfoldable pub storageNow : Start → List MonthRun → ℕ → ℤ
 storageNow s hs v = pos (getD ((s .carried) .storages) v 0 + totalStored v hs) -ℤ pos (totalDrawn v hs) -ℤ pos (totalLost v hs)
 
@@ -97,7 +97,7 @@ pub record MonthSound (b : Basin) (h : MonthRun) : Type 0 where
   pub before-first : Checkpoint b (h .opened)
   pub each-turn : All (TurnSound b) (h .turns)
 
--- ---- the claim
+-- ---- no water is lost and none appears
 
 pub record WaterKept (b : Basin) (t : Tally) : Type 0 where
   -- runoff + the start's storages and dues = outflow + consumption + evaporation + returns on their way + storage now
