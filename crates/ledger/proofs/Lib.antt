@@ -1,3 +1,5 @@
 pub mod Tally
-pub mod Demand3
+pub mod Telling
+pub mod Account
+pub mod Runs
 pub mod Theorems

@@ -21,7 +21,7 @@ use Rattle.rules.proofs.Possible.{capped-of, fresh-possible}
 use Rattle.rules.proofs.Pending.{pending-on, pending-ends, pending-begins}
 use Rattle.boards.specs.Board.{storageAt, marksAt, takenAt, dueAt, carriedOf, placeOf, boardOf, possible}
 use Rattle.boards.specs.Calls.{freshBoard, runOf, dueAfter, boardAfter}
-use Rattle.ledger.specs.Demand3.{startOf, tallyBoard}
+use Rattle.ledger.specs.Account.{startOf, tallyBoard}
 use Rattle.boards.proofs.Bounds as held
 use Rattle.boards.proofs.Board.{Counted, board-length, due-of-row, read-back, board-same}
 use Rattle.monthrun.proofs.Closing.{board-by-parts, word-bits}

@@ -1,9 +1,10 @@
--- Demand 3, as one claim about any list of month calls on one file, from any board that is possible for it. It cites only definitions; proofs/Demand3.antt proves it.
+-- A run of month calls is accounted for: one claim about any list of calls on one file, from any board that is possible for it, told by the tally alone
+-- (01, "The tally of a list of months"). It cites only definitions; proofs/Theorems.antt proves it.
 use mathlib.Core.Path.{_≡_}
 use mathlib.Core.Bool.{true}
 use mathlib.Core.List.{List, [], _∷_, map}
 use mathlib.Core.Option.{Option, none, some}
-use Prim.Native.Nat.{ℕ, _+_, _*_, _<_}
+use Prim.Native.Nat.{ℕ, _+_, _*_, _≤_, _<_}
 use lib.ListN.{length, getD, drop}
 use lib.IntN.{pos}
 use Rattle.general.specs.Tests.{has}
@@ -16,10 +17,10 @@ use Rattle.basin.specs.declared.Verdict.the-variants.{Accepted}
 use Rattle.records.specs.Records.{basinOf}
 use Rattle.basin.specs.Check.{checkOf}
 use Rattle.boards.specs.Board.{dueAt, carriedOf, boardOf, possible}
-use Rattle.boards.specs.Report.{grantAt, rowsFrom, reservoirsFrom, nameIn}
+use Rattle.boards.specs.Report.{grantAt, rowsFrom, reservoirsFrom, reportOf, nameIn}
 use Rattle.boards.specs.Calls.{freshOf, runOf, Outcome, MonthMeets}
 
--- ---- a list of calls
+-- ---- a run of calls
 
 -- a month call: the runoff and the report that it was lent, and what it left
 pub record Event : Type 0 where
@@ -27,7 +28,7 @@ pub record Event : Type 0 where
   pub report : List ℕ
   pub outcome : Outcome
 
--- the call as the tally sees it: its arguments except the board, of the report only its length
+-- the call as the tally sees it: no board, and of the report only how long it is
 abbrev pub callOf : Event → Call
 callOf e = record { runoff = e .runoff; report = length (e .report) }
 
@@ -36,8 +37,14 @@ abbrev pub Run : List ℕ → List ℕ → List Event → Type 0
 Run f board [] = Unit {0}
 Run f board (e ∷ es) = MonthMeets f (e .runoff) board (e .report) (e .outcome) × Run f ((e .outcome) .board) es
 
+-- the board after the run: the one that the last call left; where there is no call, the one there was
+abbrev pub boardLeft : List ℕ → List Event → List ℕ
+boardLeft board [] = board
+boardLeft board (e ∷ es) = boardLeft ((e .outcome) .board) es
+
 -- ---- the report of an accepted month is the tally's
 
+-- the report after a month run, told number by number; before is the report that was lent
 pub record Tells (b : Basin) (h : MonthRun) (before after : List ℕ) : Type 0 where
   -- all grants: river part, reservoir part and reason
   pub from-river : (i : ℕ) → i < length (b .rights) → getD after (4 * i) 0 ≡ (grantAt h i) .fromRiver
@@ -50,8 +57,13 @@ pub record Tells (b : Basin) (h : MonthRun) (before after : List ℕ) : Type 0 w
   pub available : (w : ℕ) → w < rows b → pos (getD after (rowsFrom b + 2 * w + 1) 0) ≡ availableAt ((h .closed) .levels) w
   -- evaporation
   pub evaporation : (v : ℕ) → v < length (b .reservoirs) → getD after (reservoirsFrom b + v) 0 ≡ getD (h .evaporation) v 0
-  -- places beyond keep their content
+  -- the rest of the list is as it was
   pub beyond : drop (reportLength b) after ≡ drop (reportLength b) before
+  pub size : length after ≡ length before
+
+-- Nothing is left untold: a report of which all this holds is the month's report, number for number, with the stations that it names itself.
+abbrev pub TellsAll : Type 0
+TellsAll = (b : Basin) (h : MonthRun) (before after : List ℕ) → reportLength b ≤ length before → Tells b h before after → after ≡ reportOf b h (nameIn after) before
 
 -- an accepted call tells the tally's month; a refused one leaves the report as it was
 abbrev pub ReportOk : Option Answer → Basin → Tally → Event → Type 0
@@ -81,17 +93,19 @@ AllFollow b t (e ∷ es) = Follows b t e × AllFollow b (afterCall b t (callOf e
 
 -- ---- the claim
 
--- from a start
-pub record Demand3 (f : List ℕ) (s : Start) (es : List Event) : Type 0 where
-  -- "all answers, grants, flows, open water and evaporation are those of 01's tally; the board holds the tally's pending returns and storages"
+-- The run es that began with this board is accounted for by the tally that began from the start s.
+pub record Accounted (f board : List ℕ) (s : Start) (es : List Event) : Type 0 where
+  -- call for call, answer, report and board are the tally's
   pub follows : AllFollow (basinOf f) (begun s) es
-  -- "runoff of the accepted months + starting storage = outflow + consumption + evaporation + returns on their way + storage now", the start's storage and dues for starting storage;
-  -- each reservoir's storage now; "flow never below zero nor below open water" at every checkpoint
+  -- and so is the board after the whole run, be it empty
+  pub left : boardLeft board es ≡ tallyBoard (basinOf f) (afterCalls (basinOf f) (begun s) (map callOf es))
+  -- By then no water is lost and none has appeared since the start; each reservoir holds what its grants and its evaporation leave; at no checkpoint was a
+  -- flow negative or below the available flow.
   pub water : WaterKept (basinOf f) (afterCalls (basinOf f) (begun s) (map callOf es))
 
--- for every file that the check accepts, every board that is possible for it and every list of calls from that board, accepted and refused in any mix
+-- So is every run, for every file that the check accepts and every board that is possible for it, with calls accepted and refused in any mix.
 abbrev pub Claim : Type 0
-Claim = (f board : List ℕ) → checkOf f ≡ Accepted → length board ≡ 970 → possible (basinOf f) board ≡ true → (es : List Event) → Run f board es → Demand3 f (startOf (basinOf f) board) es
+Claim = (f board : List ℕ) → checkOf f ≡ Accepted → length board ≡ 970 → possible (basinOf f) board ≡ true → (es : List Event) → Run f board es → Accounted f board (startOf (basinOf f) board) es
 
 -- The board that fresh leaves is such a board, and what it starts from is the fresh start.
 pub record FreshBoard (f board : List ℕ) : Type 0 where
@@ -102,14 +116,16 @@ pub record FreshBoard (f board : List ℕ) : Type 0 where
 abbrev pub FreshStarts : Type 0
 FreshStarts = (f board : List ℕ) → checkOf f ≡ Accepted → length board ≡ 970 → FreshBoard f board
 
--- so that the claim holds from the fresh board, with the starting storages
+-- so that a run from the fresh board is accounted for by the fresh tally
 abbrev pub FromFresh : Type 0
-FromFresh = (f board : List ℕ) → checkOf f ≡ Accepted → length board ≡ 970 → (es : List Event) → Run f ((freshOf f board) .board) es → Demand3 f (freshStart (basinOf f)) es
+FromFresh = (f board : List ℕ) → checkOf f ≡ Accepted → length board ≡ 970 → (es : List Event) → Run f ((freshOf f board) .board) es → Accounted f ((freshOf f board) .board) (freshStart (basinOf f)) es
 
--- The checkpoints of the month that any possible board runs.
+-- ---- the checkpoints of a month from any possible board, with any runoff: before the first right and three times in each right's turn
+
 abbrev pub Checkpoints : Type 0
 Checkpoints = (f board runoff : List ℕ) → checkOf f ≡ Accepted → length board ≡ 970 → possible (basinOf f) board ≡ true → MonthSound (basinOf f) (runOf (basinOf f) runoff board)
 
--- The claim is not empty: from every board, for every list of runoffs and reports, there is a list of calls that meets the contract.
+-- ---- the claim is not empty: from every board, for every list of runoffs and reports, there is a run of calls that meet the contract
+
 abbrev pub NotEmpty : Type 0
 NotEmpty = (f board : List ℕ) → checkOf f ≡ Accepted → (cs : List (List ℕ × List ℕ)) → (es : List Event) × (map (λ (e : Event). (e .runoff, e .report)) es ≡ cs) × Run f board es
