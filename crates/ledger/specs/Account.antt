@@ -1,5 +1,5 @@
--- A run of month calls is accounted for: one claim about any list of calls on one file, from any board that is possible for it, told by the tally alone
--- (01, "The tally of a list of months"). It cites only definitions; proofs/Theorems.antt proves it.
+-- A run of month calls is accounted for: one claim about any list of calls on one file, from any board that is possible for it. What the calls answer and
+-- leave is what the tally says (01, "The tally of a list of months"). It cites only definitions; proofs/Theorems.antt proves it.
 use mathlib.Core.Path.{_≡_}
 use mathlib.Core.Bool.{true}
 use mathlib.Core.List.{List, [], _∷_, map}

@@ -41,12 +41,12 @@ module _ (st : List Station) where
   later : (r q : ℕ) → r < length st → rowBelow st r ≡ some q → (r < q) × (q < length st)
   later r q h e = below-later r q e
 
-  -- a path is its row, followed by the path of the row below
+  -- one step down the river
   pub path-row : (i q : ℕ) → i < length st → rowBelow st i ≡ some q → path st i ≡ i ∷ path st q
   unfolding path
   path-row i q h e = route-row (rowBelow st) (length st) later i q h e
 
-  -- and its row alone where there is none below
+  -- where there is no row below, the row alone
   pub path-end : (i : ℕ) → i < length st → rowBelow st i ≡ none → path st i ≡ i ∷ []
   unfolding path
   path-end i h e = route-end (rowBelow st) (length st) later i h e
@@ -86,7 +86,7 @@ module _ (st : List Station) where
 -- ---- an accepted network
 
 module _ (b : Basin) (c : Connected b) where
-  -- only the last row has none below
+  -- a row without one below is the outlet
   end-is-last : (r : ℕ) → r < rows b → rowBelow (b .stations) r ≡ none → r ≡ lastRow b
   end-is-last r h e = by-eqb (suc r) (rows b) (λ _. r ≡ lastRow b) (λ f. omega arith)
       (λ f. let d = c .has-below r (omega arith) in let g : none ≡ some (d .0) = sym e ∙ d .1 in absurd (let z : _≡_ {A = ℕ} 0 1 = cc in omega arith))

@@ -43,7 +43,7 @@ module _ (b : Basin) (c : Connected b) where
   last-in : (l : List Level) → length l ≡ rows b → lastRow b < length l
   last-in l e = omega (arith, c .some-row)
 
-  -- the flow at the last row after a change along a path that holds it, and along one that does not
+  -- the outflow, changed along a path that holds the outlet, and along one that does not
   flow-on : (f : Level → Level) (p : List ℕ) (l : List Level) → length l ≡ rows b → has (lastRow b) p ≡ true → flowAt (along f p l) (lastRow b) ≡ (f (levelAt l (lastRow b))) .flow
   flow-on f p l n e = ap (λ (x : Level). x .flow) (along-at f p l (lastRow b) (last-in l n)) ∙ rw e
 

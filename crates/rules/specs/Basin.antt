@@ -32,7 +32,7 @@ pub record Point : Type 0 where
 pub data Kind : Type 0 where
   direct project instream storage : Kind
 
--- A water right. Bit m of the months word is set when month m is in use; amounts are the diversion schedule, one a month.
+-- A water right. The months word has a bit for each month of the year, 1 where the right is used; amounts are the diversion schedule, one a month.
 pub record Right : Type 0 where
   pub permit : ℕ
   pub date : ℕ

@@ -41,7 +41,7 @@ opening b c runoff arriving = record {
   short = replicate (rows b) false;
 }
 
--- ---- step 3: each right in list order
+-- ---- step 3: the rights, in the order of the list
 
 -- the turns of the rights rs, which stand from place i on
 unfoldable pub turns : Basin → ℕ → ℕ → List Right → State → List Turn

@@ -19,7 +19,7 @@ use Rattle.rules.specs.Water.{startingStorage, startingDues, Checkpoint,
 use Rattle.rules.specs.Accepted.{Connected, Accepted}
 use Rattle.rules.specs.October.{october}
 
--- ---- splitting: once, for any list of percents that sum to 100
+-- ---- splitting: of any amount nothing is lost, by whatever percents, as long as they sum to 100
 
 abbrev pub Splitting : Type 0
 Splitting = (a : ℕ) (ps : List ℕ) → sum ps ≡ 100 → sum (shares a ps) ≡ a
@@ -70,13 +70,13 @@ StartKept = (b : Basin) (s : Start) (cs : List Call) → (afterCalls b (begun s)
 
 -- ---- checkpoints: in no month does a row have negative flow, or more available flow than flow
 
--- For any basin with the facts of an accepted one, any possible start and any runoff, within its limit or not: before the first right, and in each right's
--- turn after its river part, after its part from storage and after its returns.
+-- For any basin with the facts of an accepted one, any possible start and any runoff, within its limit or not: at the checkpoint before the first right and
+-- at the three of each turn.
 abbrev pub Checkpoints : Type 0
 Checkpoints = (b : Basin) → Accepted b → (s : Start) → Possible b s → (runoff : List ℕ) → MonthSound b (month b (s .carried) runoff (tab (rows b) (λ w. s .due w 1)))
 
--- Of a right that asks a in state s: the lesser of a and an available flow, as a signed number, with nothing cut off at 0.
-pub record Uncut (b : Basin) (r : Right) (s : State) (a : ℕ) : Type 0 where
+-- Of a right that asks a in state s: the lesser of a and an available flow is their lesser as signed numbers, with nothing cut off at 0.
+pub record SignedLesser (b : Basin) (r : Right) (s : State) (a : ℕ) : Type 0 where
   -- against the lowest available flow on the path, as direct, project and storage rights take it
   pub on-path : pos (lesser a (lowest (s .levels) (pathOf b r))) ≡ lower (pos a) (lowest (s .levels) (pathOf b r))
   -- against the available flow at the right's own row, as an instream right takes it
@@ -84,7 +84,7 @@ pub record Uncut (b : Basin) (r : Right) (s : State) (a : ℕ) : Type 0 where
 
 -- It is so wherever a checkpoint holds; each right has its turn at one, before the first right or after the returns of the right before it.
 abbrev pub Unclipped : Type 0
-Unclipped = (b : Basin) (r : Right) (s : State) (a : ℕ) → Checkpoint b s → Uncut b r s a
+Unclipped = (b : Basin) (r : Right) (s : State) (a : ℕ) → Checkpoint b s → SignedLesser b r s a
 
 -- ---- pending, one month on: what was pending at k + 1, and what the grants of the new month return after k months
 

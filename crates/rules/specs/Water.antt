@@ -86,13 +86,13 @@ pub record Checkpoint (b : Basin) (s : State) : Type 0 where
   pub size : length (s .levels) ≡ rows b
   pub sound : (w : ℕ) → Sound (levelAt (s .levels) w)
 
--- in each right's turn: after its river part, after its part from storage, after its returns
+-- the three checkpoints of a turn, one after each stage
 pub record TurnSound (b : Basin) (t : Turn) : Type 0 where
   pub after-river : Checkpoint b (t .after-river)
   pub after-storage : Checkpoint b (t .after-storage)
   pub after-returns : Checkpoint b (t .after-returns)
 
--- and before the first right
+-- those of a month: one before the turns, and those of each turn
 pub record MonthSound (b : Basin) (h : MonthRun) : Type 0 where
   pub before-first : Checkpoint b (h .opened)
   pub each-turn : All (TurnSound b) (h .turns)
