@@ -1,4 +1,5 @@
--- The board that the tally keeps: it is possible, runs the tally's month, and becomes the tally's next board; and a possible board is that of the tally that begins from it. Assumes nothing.
+-- The board that the tally keeps: it is possible, runs the tally's month, and becomes the tally's next board; and a possible board is that of the tally
+-- that begins from it. Assumes nothing.
 use mathlib.Core.Path.{_≡_, refl, sym, ap, _∙_}
 use mathlib.Core.Bool.{Bool, true, false}
 use mathlib.Core.List.{List, [], _∷_, _++_}

@@ -1,4 +1,4 @@
--- Bounds of a month: a grant is at most its amount, a storage at most the capacity, water taken at most the limit, what returns at most the grants. Assumes nothing.
+-- Bounds of a month: grants within amounts, storages within capacities, water taken within limits, returns within grants. Assumes nothing.
 use mathlib.Core.Path.{_≡_, ap, _∙_}
 use mathlib.Core.Bool.{Bool, true, false, not, cond, _&&_}
 use mathlib.Core.List.{List, [], _∷_}
