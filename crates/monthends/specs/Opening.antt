@@ -70,16 +70,22 @@ openedAt bd october p =
 unfoldable pub openedBoard : List ℕ → Bool → List ℕ
 openedBoard bd october = tab 970 (openedAt bd october)
 
--- ---- its three steps
+-- a board of n rows: nothing is due where it has no row
+pub record CanOpen (n : ℕ) (bd : List ℕ) : Type 0 where
+  pub size : length bd ≡ 970
+  pub few : n ≤ 64
+  pub empty : (p : ℕ) → 266 + 11 * n ≤ p → getD bd p 0 ≡ 0
+
+-- ---- its three steps, of which two are made for n rows
 
 -- marks and water taken become 0 in October
 unfoldable pub clearedAt : List ℕ → Bool → ℕ → ℕ
 clearedAt bd october p = cond (ltb p 9) (getD bd p 0) (cond (ltb p 266) (cond october 0 (getD bd p 0)) (getD bd p 0))
 
--- each due but the board's last becomes the next one on the board
-unfoldable pub movedAt : List ℕ → ℕ → ℕ
-movedAt bd p = cond (ltb p 266) (getD bd p 0) (cond (ltb p 969) (getD bd (p + 1) 0) (getD bd p 0))
+-- each due of theirs but the very last becomes the next one on the board
+unfoldable pub movedAt : List ℕ → ℕ → ℕ → ℕ
+movedAt bd n p = cond (ltb p 266) (getD bd p 0) (cond (ltb p (265 + 11 * n)) (getD bd (p + 1) 0) (getD bd p 0))
 
--- the last due of each row becomes 0
-unfoldable pub endedAt : List ℕ → ℕ → ℕ
-endedAt bd p = cond (ltb p 266) (getD bd p 0) (cond (eqb ((p - 266) % 11) 10) 0 (getD bd p 0))
+-- the last due of each becomes 0
+unfoldable pub endedAt : List ℕ → ℕ → ℕ → ℕ
+endedAt bd n p = cond (ltb p 266) (getD bd p 0) (cond (ltb p (266 + 11 * n)) (cond (eqb ((p - 266) % 11) 10) 0 (getD bd p 0)) (getD bd p 0))

@@ -1,8 +1,9 @@
 // The river and the board before the first right.
 ghost use mathlib.Core.Path.{_≡_};
+ghost use Prim.Native.Nat.{_≤_};
 ghost use lib.ListN.{length};
 ghost use Rattle.general.specs.Tables.{tab};
-ghost use Rattle.monthends.specs.Opening.{CanSend, Sent, CanGather, Gathered, clearedAt, movedAt, endedAt, openedBoard};
+ghost use Rattle.monthends.specs.Opening.{CanSend, Sent, CanGather, Gathered, CanOpen, clearedAt, movedAt, endedAt, openedBoard};
 use records::network::Below;
 use records::network::next_row;
 use returns::numbers::wide32;
@@ -53,32 +54,34 @@ fn clear_year(board: &mut [u64], october: bool)
     }
 }
 
-// The dues of all rows as one list, so that they move as one block. The last of a row takes the next row's first, until `clear_last`.
-fn move_dues(board: &mut [u64])
-    requires { ⌜ length (now board) ≡ 970 ⌝ }
-    ensures { λ _. ⌜ now (board .exit) ≡ tab 970 (movedAt (now (board .entry))) ⌝ }
+// The dues of n rows as one list, so that they move as one block. The last of a row takes the next row's first, until `clear_last`.
+fn move_dues(board: &mut [u64], n: usize)
+    requires { ⌜ (length (now board) ≡ 970) × (n ≤ 64) ⌝ }
+    ensures { λ _. ⌜ now (board .exit) ≡ tab 970 (movedAt (now (board .entry)) n) ⌝ }
 {
-    for p in 266..969 {
+    let last = 265 + 11 * n;
+    for p in 266..last {
         board[p] = board[p + 1];
     }
 }
 
 // The last due of each row is 0.
-fn clear_last(board: &mut [u64])
-    requires { ⌜ length (now board) ≡ 970 ⌝ }
-    ensures { λ _. ⌜ now (board .exit) ≡ tab 970 (endedAt (now (board .entry))) ⌝ }
+fn clear_last(board: &mut [u64], n: usize)
+    requires { ⌜ (length (now board) ≡ 970) × (n ≤ 64) ⌝ }
+    ensures { λ _. ⌜ now (board .exit) ≡ tab 970 (endedAt (now (board .entry)) n) ⌝ }
 {
-    for w in 0..64 {
+    for w in 0..n {
         board[276 + 11 * w] = 0;
     }
 }
 
-// Three plain loops, since one that asks at each place what is kept there costs a small basin more than its rights.
-pub fn open_board(board: &mut [u64], october: bool)
-    requires { ⌜ length (now board) ≡ 970 ⌝ }
+// Three plain loops, since one that asks at each place what is kept there costs a small basin more than its rights; and over the basin's own
+// n rows, since a possible board has nothing due at any other, and moving those zeros too cost a small basin a quarter of its month.
+pub fn open_board(board: &mut [u64], october: bool, n: usize)
+    requires { ⌜ CanOpen n (now board) ⌝ }
     ensures { λ _. ⌜ now (board .exit) ≡ openedBoard (now (board .entry)) october ⌝ }
 {
     clear_year(board, october);
-    move_dues(board);
-    clear_last(board);
+    move_dues(board, n);
+    clear_last(board, n);
 }

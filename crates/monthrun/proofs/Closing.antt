@@ -26,7 +26,7 @@ use Rattle.monthends.specs.Losses.{lossIn, Lost}
 use Rattle.returns.specs.Returning.{dueIn}
 use Rattle.turns.specs.State.{marksOf, takenOf, stateOf, Setting}
 use Rattle.turns.proofs.Facts.{reservoirs-count, reservoir-is}
-use Rattle.monthends.proofs.Openings.{opened-length}
+use Rattle.monthends.proofs.OpenedBoard.{opened-length}
 use Rattle.turns.proofs.Places.{storage-at, taken-at, bit-suc, bit-zero}
 use Rattle.boards.specs.Board.{monthAt, storageAt, marksAt, takenAt, dueAt, carriedOf, wordOf, boardOf, possible}
 use Rattle.boards.specs.Calls.{runOf, dueAfter, boardAfter}

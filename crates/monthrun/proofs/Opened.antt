@@ -17,7 +17,7 @@ use Rattle.rules.specs.Accepted.{Accepted}
 use Rattle.river.specs.Arrays.{levelsOf}
 use Rattle.monthends.specs.Opening.{openedAt, openedBoard}
 use Rattle.turns.specs.State.{storagesOf, marksOf, takenOf, shortOf, stateOf}
-use Rattle.monthends.proofs.Openings.{opened-place}
+use Rattle.monthends.proofs.OpenedBoard.{opened-place}
 use Rattle.boards.specs.Board.{storageAt, marksAt, takenAt, carriedOf}
 use Rattle.boards.proofs.Board.{bit-none}
 

@@ -19,18 +19,19 @@ use Rattle.records.specs.Records.{rowsOf, stationsOf, reservoirCount, rightCoun
 use Rattle.records.specs.Table.{tableOf}
 use Rattle.turns.specs.Lines.{CanServe, Served}
 use Rattle.monthends.specs.Losses.{Lost}
-use Rattle.monthends.specs.Opening.{CanGather, Gathered, openedAt}
+use Rattle.monthends.specs.Opening.{CanGather, Gathered, CanOpen, openedAt}
 use Rattle.returns.specs.Returning.{BoardOk}
 use Rattle.turns.specs.State.{stateOf, Setting, Within}
 use Rattle.turns.proofs.Facts.{downhill, path-in}
-use Rattle.monthends.proofs.Openings.{gathered-river, opening-is, opened-length, opened-place}
+use Rattle.monthends.proofs.Openings.{gathered-river, opening-is}
+use Rattle.monthends.proofs.OpenedBoard.{opened-length, opened-place}
 use Rattle.boards.specs.Bodies.{bodies}
 use Rattle.boards.specs.Board.{monthAt, dueAt, carriedOf, possible}
 use Rattle.boards.specs.Report.{rowsFrom}
 use Rattle.steps.specs.Steps.{CanEnd, Ended, CanRun, Ran}
 use Rattle.boards.proofs.Bodies.{bodies-rows, bodies-reservoirs, bodies-rights, marks-small}
 use Rattle.monthrun.proofs.Opened.{opened, opened-month, opened-storage, opened-taken, state-opened}
-use Rattle.boards.proofs.Bounds.{month-most, storage-most, marks-most, taken-most, due-most, capacity-most, limit-most}
+use Rattle.boards.proofs.Bounds.{month-most, storage-most, marks-most, taken-most, due-most, no-due, capacity-most, limit-most}
 use Rattle.monthrun.proofs.Closing.{board-left}
 use Rattle.monthrun.proofs.Reporting.{report-left, names-left, shorts-left}
 
@@ -67,6 +68,20 @@ module _ (b : Basin) (acc : Accepted b) (bd : List ℕ) (can : possible b bd ≡
       pick (no x) (no y) (no z) (yes u) _ = omega (arith, at (10 + (p - 10)) (omega (arith, z)), taken-most b bd can (p - 10) (omega (arith, u)), limit-most b acc (p - 10))
       pick (no x) (no y) (no z) (no u) (yes v) = due-small p (omega (arith, u)) v
       pick (no x) (no y) (no z) (no u) (no v) = omega (arith, List·getD-eq-default bd 0 {n = p} (omega (arith, size, v)))
+
+  -- nothing is due where the basin has no row
+  none-due : (p : ℕ) → 266 + 11 * rows b ≤ p → getD bd p 0 ≡ 0
+  none-due p h = pick (decLt p 970)
+    where
+      w : ℕ
+      w = (p - 266) / 11
+
+      k : ℕ
+      k = (p - 266) % 11
+
+      pick : Dec (p < 970) → getD bd p 0 ≡ 0
+      pick (yes l) = let e : getD bd p 0 ≡ dueAt bd w (suc k) = ap (λ (x : ℕ). getD bd x 0) (omega arith) in e ∙ no-due b bd can w k (omega arith) (omega arith) (omega arith)
+      pick (no l) = List·getD-eq-default bd 0 {n = p} (omega (arith, size, l))
 
   -- the board as the month opens
 
@@ -106,6 +121,13 @@ module _ (st rs ps ri runoff bd rp : List ℕ) (c : CanRun st rs ps ri runoff bd
 
   pub run-rights : rightCount ri ≤ 256
   run-rights = omega (arith, bodies-rights st rs ps ri, c .accepted .few-rights)
+
+  pub can-open : CanOpen (length runoff) bd
+  can-open = record {
+    size = c .size;
+    few = omega (arith, c .sheet, c .accepted .few-rows);
+    empty = λ p h. none-due (bodies st rs ps ri) (c .accepted) bd (c .can) (c .size) p (omega (arith, h, c .sheet));
+  }
 
 module _ (st rs ps ri runoff bd rp : List ℕ) (c : CanRun st rs ps ri runoff bd rp) (t : List ℕ) (et : t ≡ tableOf (stationsOf st)) (pa : List (List ℕ)) (epa : pa ≡ sixteenPatterns ps) where
   abbrev b : Basin

@@ -2,7 +2,7 @@
 ghost use mathlib.Core.Path.{_≡_};
 ghost use Prim.Native.Nat.{_<_};
 ghost use Rattle.rules.specs.Month.{nextMonth};
-ghost use Rattle.monthends.specs.Opening.{CanGather, Gathered, openedBoard};
+ghost use Rattle.monthends.specs.Opening.{CanGather, Gathered, CanOpen, openedBoard};
 ghost use lib.Dec.{eqb};
 ghost use lib.ListN.{length, getD};
 ghost use Rattle.steps.specs.Steps.{CanTell, RowsTold, CanEnd, Ended};
@@ -18,12 +18,12 @@ pub fn begin(
     available: &mut [u64; 64],
     board: &mut [u64],
 )
-    requires { ⌜ CanGather (now below) (now runoff) (now board) (now flow) (now available) ⌝ }
+    requires { ⌜ CanGather (now below) (now runoff) (now board) (now flow) (now available) × CanOpen (length (now runoff)) (now board) ⌝ }
     ensures { λ _. ⌜ Gathered (now (below .entry)) (now (runoff .entry)) (now (board .entry)) (length (now (runoff .entry))) (now (flow .exit)) (now (available .exit)) × (now (board .exit) ≡ openedBoard (now (board .entry)) (eqb (getD (now (board .entry)) 0 0) 0)) ⌝ }
 {
     gather(below, runoff, board, flow, available);
     let october = board[0] == 0;
-    open_board(board, october);
+    open_board(board, october, runoff.len());
 }
 
 // Flow and available flow of n rows, from the place `at` of the report on.

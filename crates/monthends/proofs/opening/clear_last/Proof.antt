@@ -6,18 +6,18 @@ use borrow.Author.Needs.{needs}
 use lib.ListN.{set}
 use denote.Ref.{now}
 use Rattle.monthends.specs.Opening.{endedAt}
-use Rattle.monthends.proofs.Openings.{Passed, passed-from, passed-to, passed-all, ended-before, ended-here, ended-else}
+use Rattle.monthends.proofs.OpenedBoard.{Passed, passed-from, passed-to, passed-all, ended-before, ended-here, ended-else, ended-after}
 use Rattle.monthends.proofs.opening.clear_last.Statement.{statement}
 use Rattle.monthends.proofs.opening.clear_last.Tie as tie
 
 abbrev Inv-loop : tie.InvT-loop
-Inv-loop board₀ w₀ board w = (w ≤ 64) × Passed (endedAt board₀) board₀ board (266 + 11 * w)
+Inv-loop board₀ n w₀ board w = (w ≤ n) × Passed (endedAt board₀ n) board₀ board (266 + 11 * w)
 
 abbrev μ-loop : tie.MeasureT-loop
-μ-loop board₀ w₀ board w = 64 - w
+μ-loop board₀ n w₀ board w = n - w
 
 loop-holds : tie.Need-loop-holds Inv-loop μ-loop
-loop-holds c = (search needs, passed-from _ (now (c .args .board)) 266 (c .pre) (λ j h. ended-before _ j h))
+loop-holds c = (search needs, passed-from _ (now (c .args .board)) 266 (c .pre .0) (λ j h. ended-before _ (c .args .n) j h))
 
 mul-board : tie.Need-mul-board Inv-loop μ-loop
 mul-board c = search needs
@@ -39,11 +39,12 @@ loop-less c = search needs
 
 loop-again : tie.Need-loop-again Inv-loop μ-loop
 loop-again c =
-    let bd = now (c .before .before .args .board) in
+    let s = c .before .before .args in
+    let bd = now (s .board) in
     let l = c .before .loop in (
       omega arith,
-      subst (λ (k : ℕ). Passed (endedAt bd) bd (set (l .board) (276 + 11 * l .w) 0) k) (omega arith)
-          (passed-to (endedAt bd) bd (l .board) (266 + 11 * l .w) (276 + 11 * l .w) 0 (omega arith) (omega arith) (ended-here bd _ (omega arith) (omega arith)) (λ j h k. ended-else bd j (omega arith) (λ e. omega (arith, e, h, k))) (l .inv .1)),
+      subst (λ (k : ℕ). Passed (endedAt bd (s .n)) bd (set (l .board) (276 + 11 * l .w) 0) k) (omega arith)
+          (passed-to (endedAt bd (s .n)) bd (l .board) (266 + 11 * l .w) (276 + 11 * l .w) 0 (omega arith) (omega arith) (ended-here bd (s .n) _ (omega arith) (omega arith) (omega arith)) (λ j h k. ended-else bd (s .n) j (omega arith) (omega arith) (λ e. omega (arith, e, h, k))) (l .inv .1)),
     )
 
 same-length : tie.Need-same-length Inv-loop μ-loop
@@ -51,9 +52,10 @@ same-length c = search needs
 
 returns : tie.Need-returns Inv-loop μ-loop
 returns c =
-    let bd = now (c .before .before .args .board) in
+    let s = c .before .before .args in
+    let bd = now (s .board) in
     let l = c .before .loop in
-    passed-all (endedAt bd) bd (l .board) (266 + 11 * l .w) (l .inv .1) (λ j h k. absurd (omega arith))
+    passed-all (endedAt bd (s .n)) bd (l .board) (266 + 11 * l .w) (l .inv .1) (λ j h k. ended-after bd (s .n) j (omega arith) (omega arith))
 
 pub clear-last-spec : {M : Type 1} → statement M
 clear-last-spec =

@@ -8,7 +8,7 @@ use borrow.Author.Tests.{not-true, not-false}
 use denote.Ref.{now}
 use Rattle.general.specs.Tables.{tab}
 use Rattle.monthends.specs.Opening.{clearedAt}
-use Rattle.monthends.proofs.Openings.{Passed, passed-from, passed-to, passed-all, cleared-before, cleared-here, cleared-after, cleared-none}
+use Rattle.monthends.proofs.OpenedBoard.{Passed, passed-from, passed-to, passed-all, cleared-before, cleared-here, cleared-after, cleared-none}
 use Rattle.monthends.proofs.opening.clear_year.Statement.{statement}
 use Rattle.monthends.proofs.opening.clear_year.Tie as tie
 

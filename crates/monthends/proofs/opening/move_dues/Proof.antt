@@ -1,22 +1,30 @@
 -- `monthends::opening::move_dues` meets its contract. The loop's invariant: the places passed are done, the others as they were. Assumes nothing.
-use mathlib.Core.Path.{_∙_}
-use Prim.Native.Nat.{_+_, _-_, _≤_}
+use mathlib.Core.Path.{_≡_, _∙_}
+use Prim.Native.Nat.{_+_, _-_, _*_, _≤_}
 use native.Mathlib.Omega.{arith}
 use borrow.Author.Needs.{needs}
 use denote.Ref.{now}
 use Rattle.monthends.specs.Opening.{movedAt}
-use Rattle.monthends.proofs.Openings.{Passed, passed-from, passed-to, passed-all, moved-before, moved-here, moved-after}
+use Rattle.monthends.proofs.OpenedBoard.{Passed, passed-from, passed-to, passed-all, moved-before, moved-here, moved-after}
 use Rattle.monthends.proofs.opening.move_dues.Statement.{statement}
 use Rattle.monthends.proofs.opening.move_dues.Tie as tie
 
 abbrev Inv-loop : tie.InvT-loop
-Inv-loop board₀ p₀ board p = (266 ≤ p) × (p ≤ 969) × Passed (movedAt board₀) board₀ board p
+Inv-loop board₀ n last p₀ board p = (last ≡ 265 + 11 * n) × (266 ≤ p) × (p ≤ 266 + 11 * n) × Passed (movedAt board₀ n) board₀ board p
 
 abbrev μ-loop : tie.MeasureT-loop
-μ-loop board₀ p₀ board p = 969 - p
+μ-loop board₀ n last p₀ board p = 265 + 11 * n - p
+
+mul-last : tie.Need-mul-last Inv-loop μ-loop
+mul-last c = search needs
+
+add-last : tie.Need-add-last Inv-loop μ-loop
+add-last c = search needs
 
 loop-holds : tie.Need-loop-holds Inv-loop μ-loop
-loop-holds c = (search needs, search needs, passed-from _ (now (c .args .board)) 266 (c .pre) (λ j h. moved-before _ j h))
+loop-holds c =
+    let s = c .args in
+    (search needs, search needs, search needs, passed-from _ (now (s .board)) 266 (c .pre .0) (λ j h. moved-before _ (s .n) j h))
 
 add-board : tie.Need-add-board Inv-loop μ-loop
 add-board c = search needs
@@ -41,11 +49,13 @@ loop-less c = search needs
 
 loop-again : tie.Need-loop-again Inv-loop μ-loop
 loop-again c =
-    let bd = now (c .before .before .before .args .board) in
+    let s = c .before .before .before .args in
+    let bd = now (s .board) in
     let l = c .before .before .loop in (
+      search needs,
       omega arith,
       omega arith,
-      passed-to (movedAt bd) bd (l .board) (l .p) (l .p) _ (omega arith) (omega arith) (l .inv .2 .rest (l .p + 1) (omega arith) ∙ moved-here bd (l .p) (omega arith) (omega arith)) (λ j h k. absurd (omega arith)) (l .inv .2),
+      passed-to (movedAt bd (s .n)) bd (l .board) (l .p) (l .p) _ (omega arith) (omega arith) (l .inv .3 .rest (l .p + 1) (omega arith) ∙ moved-here bd (s .n) (l .p) (omega arith) (omega arith)) (λ j h k. absurd (omega arith)) (l .inv .3),
     )
 
 same-length : tie.Need-same-length Inv-loop μ-loop
@@ -53,9 +63,10 @@ same-length c = search needs
 
 returns : tie.Need-returns Inv-loop μ-loop
 returns c =
-    let bd = now (c .before .before .args .board) in
+    let s = c .before .before .args in
+    let bd = now (s .board) in
     let l = c .before .loop in
-    passed-all (movedAt bd) bd (l .board) (l .p) (l .inv .2) (λ j h k. moved-after bd j (omega arith))
+    passed-all (movedAt bd (s .n)) bd (l .board) (l .p) (l .inv .3) (λ j h k. moved-after bd (s .n) j (omega arith) (omega arith))
 
 pub move-dues-spec : {M : Type 1} → statement M
 move-dues-spec =
@@ -63,6 +74,8 @@ move-dues-spec =
     (tie.spec
     Inv-loop
     μ-loop
+    mul-last
+    add-last
     loop-holds
     add-board
     mul-board

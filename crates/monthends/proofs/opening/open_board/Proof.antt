@@ -1,6 +1,6 @@
 -- `monthends::opening::open_board` meets its contract. Assumes nothing.
 use denote.Ref.{now}
-use Rattle.monthends.proofs.Openings.{opened-is}
+use Rattle.monthends.proofs.OpenedBoard.{opened-is}
 use borrow.Author.Needs.{needs}
 use Rattle.monthends.proofs.opening.open_board.Statement.{statement}
 use Rattle.monthends.proofs.opening.open_board.Tie as tie
@@ -18,7 +18,9 @@ same-length : tie.Need-same-length
 same-length c = search needs
 
 returns : tie.Need-returns
-returns c = opened-is (now (c .before .before .before .before .before .before .before .before .before .before .before .before .before .args .board)) _ _ (c .before .before .before .before .before .before .before .before .before .before .before .before .before .args .october) (c .before .before .before .before .before .before .before .before .before .before .clear-year .ensures) (c .before .before .before .before .before .before .move-dues .ensures) _ (c .before .before .clear-last .ensures)
+returns c =
+    let s = c .before .before .before .before .before .before .before .before .before .before .before .before .before .args in
+    opened-is (s .n) (now (s .board)) _ _ (c .before .before .before .before .before .before .before .before .before .before .before .before .before .pre) (s .october) (c .before .before .before .before .before .before .before .before .before .before .clear-year .ensures) (c .before .before .before .before .before .before .move-dues .ensures) _ (c .before .before .clear-last .ensures)
 
 pub open-board-spec : {M : Type 1} → statement M
 open-board-spec =

@@ -12,7 +12,7 @@ use Rattle.general.proofs.Lists.{getD-zeros}
 use Rattle.boards.specs.Bodies.{bodies}
 use Rattle.monthrun.proofs.Opened.{falses, opened-month}
 use Rattle.boards.proofs.Bounds.{month-most}
-use Rattle.monthrun.proofs.Running.{run-rows, run-patterns, run-rights, setting, can-gather, can-serve, can-end, ran}
+use Rattle.monthrun.proofs.Running.{run-rows, run-patterns, run-rights, setting, can-gather, can-open, can-serve, can-end, ran}
 
 rows-below-requires : tie.Need-rows-below-requires
 rows-below-requires c κs =
@@ -27,7 +27,8 @@ decode-patterns-requires c κs =
 begin-requires : tie.Need-begin-requires
 begin-requires c κs =
     let s = c .before .before .before .before .before .before .before .before .before .before .before .before .before .args in
-    can-gather (now (s .stations)) (now (s .reservoirs)) (now (s .patterns)) (now (s .rights)) (now (s .runoff)) (now (s .board)) (now (s .report)) (c .before .before .before .before .before .before .before .before .before .before .before .before .before .pre) _ (c .before .before .before .before .before .rows-below .ensures) _ (c .before .before .before .before .decode-patterns .ensures) _ _ (omega arith) (omega arith) (getD-zeros 64) (getD-zeros 64)
+    (can-gather (now (s .stations)) (now (s .reservoirs)) (now (s .patterns)) (now (s .rights)) (now (s .runoff)) (now (s .board)) (now (s .report)) (c .before .before .before .before .before .before .before .before .before .before .before .before .before .pre) _ (c .before .before .before .before .before .rows-below .ensures) _ (c .before .before .before .before .decode-patterns .ensures) _ _ (omega arith) (omega arith) (getD-zeros 64) (getD-zeros 64),
+    can-open (now (s .stations)) (now (s .reservoirs)) (now (s .patterns)) (now (s .rights)) (now (s .runoff)) (now (s .board)) (now (s .report)) (c .before .before .before .before .before .before .before .before .before .before .before .before .before .pre))
 
 slice-read-in-year : tie.Need-slice-read-in-year
 slice-read-in-year c = omega (arith, c .before .before .before .before .before .before .before .before .before .before .before .before .before .before .before .before .before .pre .size)
