@@ -1,4 +1,4 @@
-// Reading that tells a failure from the end of the input.
+// Reading that tells a failure from the end of the input, and writing that an interruption does not end.
 ghost use mathlib.Core.Path.{_≡_};
 ghost use Prim.Native.Nat.{_+_, _≤_};
 ghost use lib.ListN.{length};
@@ -68,4 +68,36 @@ pub fn fill(fd: i32, buf: &mut [u8]) -> Filled
         count: done,
         failed: false,
     }
+}
+
+// One write of the bytes from a place on, tried again where a signal interrupts it. 0: nothing could be written, and errno says why.
+fn write_some(fd: i32, bytes: &[u8]) -> usize
+    ensures { λ r. ⌜ Counts r (now (bytes .entry)) ⌝ }
+{
+    let mut tries = 18446744073709551615u64;
+    while tries > 0 {
+        let put = libc::write(fd, bytes);
+        if put >= 0 {
+            return io::count(put, bytes);
+        }
+        if os::errno() != libc::EINTR {
+            break;
+        }
+        tries -= 1;
+    }
+    0
+}
+
+// Writes all of the bytes. Answers false at the first write that moves nothing: then errno says why.
+pub fn send(fd: i32, bytes: &[u8]) -> bool {
+    let n = bytes.len();
+    let mut done = 0;
+    while done < n {
+        let put = write_some(fd, &bytes[done..]);
+        if put == 0 {
+            return false;
+        }
+        done += put;
+    }
+    true
 }

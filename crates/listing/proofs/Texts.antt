@@ -1,16 +1,23 @@
 -- Texts that are put one after the other. Assumes nothing.
 use mathlib.Core.List.{List, [], _∷_, _++_, append-assoc, append-nil}
 use mathlib.Core.Path.{_≡_, refl, sym, ap, _∙_, subst}
-use Prim.Native.Nat.{ℕ, _+_, _-_, _*_, _/_, _%_, _≤_, _<_}
+use Prim.Native.Nat.{ℕ, suc, _+_, _-_, _*_, _/_, _%_, _≤_, _<_}
 use native.Mathlib.Numerals.{add-one}
 use native.Mathlib.Omega.{arith}
 use lib.ListN.{length, getD, take, set, length-set}
-use lib.Seq.{take-suc-set, length-take-le}
+use lib.Seq.{take-suc, take-suc-set, take-length}
 use Rattle.general.specs.Sums.{sumTo}
 use Rattle.layout.specs.Bytes.{le32At}
-use Rattle.records.specs.Records.{rightCount, rightRecord}
-use Rattle.io.specs.Counts.{Counts}
-use Rattle.listing.specs.Listing.{digit, decimalText, space, lineOf, endWord, rightLine, rightLines, endLine, outflowIn, evaporationIn, monthText, CanList, Put, PutWhole}
+use Rattle.rules.specs.Basin.{Right, noRight}
+use Rattle.rules.specs.Tally.{Answer}
+use Rattle.records.specs.Records.{rowsOf, reservoirCount, rightCount, rightRecord, rightOf, rightsOf}
+use Rattle.records.proofs.Decoded.{right-is}
+use Rattle.boards.specs.Board.{storageAt, dueAt, storageSum, dueSum}
+use Rattle.boards.specs.Bodies.{bodies}
+use Rattle.boards.proofs.Bodies.{reservoirs-are, rights-are}
+use Rattle.records.proofs.Rows.{rows-are}
+use Rattle.listing.specs.Listing.{digit, decimalText, space, lineOf, lineEnd, endWord, refusedWord, rightLine, rightLines, endLine, outflowIn, evaporationIn, monthText, refusalLine}
+use Rattle.listing.specs.Putting.{mostText, Put, PutWhole}
 use Rattle.listing.proofs.Decimals.{one-digit, two-digits, two-more, one-long, two-long, more-long, at-most-twenty}
 
 -- ---- stores
@@ -28,6 +35,27 @@ pair-after o o′ at p x y t h e =
     let n : p + 2 ≡ p + 1 + 1 = omega arith in
     rw n (byte-after o (set o′ p x) at (p + 1) y (t ++ (x ∷ [])) (omega (arith, length-set o′ p x)) (byte-after o o′ at p x t (omega arith) e))
     ∙ ap (λ (l : List ℕ). take at o ++ l) (append-assoc t (x ∷ []) (y ∷ []))
+
+-- a text that is copied byte by byte
+module _ (o text : List ℕ) (at : ℕ) where
+  pub copy-none : take (at + 0) o ≡ take at o ++ take 0 text
+  copy-none = let e : at + 0 ≡ at = omega arith in ap (λ (k : ℕ). take k o) e ∙ sym (append-nil (take at o))
+
+  pub copy-more : (o′ : List ℕ) (i x : ℕ) → at + i < length o′ → i < length text → x ≡ getD text i 0 → take (at + i) o′ ≡ take at o ++ take i text
+      → take (at + (i + 1)) (set o′ (at + i) x) ≡ take at o ++ take (i + 1) text
+  copy-more o′ i x h k e w =
+      let n : at + (i + 1) ≡ at + i + 1 = omega arith in
+      ap (λ (m : ℕ). take m (set o′ (at + i) x)) n
+      ∙ byte-after o o′ at (at + i) x (take i text) h w
+      ∙ ap (λ (y : ℕ). take at o ++ (take i text ++ (y ∷ []))) e
+      ∙ ap (λ (l : List ℕ). take at o ++ l) (sym (take-suc text i 0 k))
+      ∙ ap (λ (m : ℕ). take at o ++ take m text) (sym (add-one i))
+
+  pub copy-all : (o′ : List ℕ) (i n : ℕ) → i ≡ n → n ≡ length text → take (at + i) o′ ≡ take at o ++ take i text → Put (length text) at text o o′ (at + n)
+  copy-all o′ i n e f w = record {
+    put = ap (λ (k : ℕ). take (at + k) o′) (sym e) ∙ w ∙ ap (λ (k : ℕ). take at o ++ take k text) (e ∙ f) ∙ ap (λ (l : List ℕ). take at o ++ l) (take-length text);
+    within = omega (arith, f);
+  }
 
 -- ---- a number
 
@@ -80,12 +108,17 @@ put-after o o′ at n x p h f e w = record {
 
 -- ---- one text after the other
 
--- a word and the byte after it, and then the rest of the line
-pub word-then : {a b at p r : ℕ} {t o o′ o″ : List ℕ} (w : List ℕ) (x : ℕ) → Put a at (w ++ (x ∷ [])) o o′ p → Put b p t o′ o″ r → Put (a + b) at (w ++ (x ∷ t)) o o″ r
-word-then {at} {t} {o} w x y z = record {
-  put = z .put ∙ ap (λ (l : List ℕ). l ++ t) (y .put) ∙ append-assoc (take at o) (w ++ (x ∷ [])) t ∙ ap (λ (l : List ℕ). take at o ++ l) (append-assoc w (x ∷ []) t);
+pub text-then : {a b at p r : ℕ} {t u o o′ o″ : List ℕ} → Put a at t o o′ p → Put b p u o′ o″ r → Put (a + b) at (t ++ u) o o″ r
+text-then {at} {t} {u} {o} y z = record {
+  put = z .put ∙ ap (λ (l : List ℕ). l ++ u) (y .put) ∙ append-assoc (take at o) t u;
   within = omega (arith, y .within, z .within);
 }
+
+-- a word and the byte after it, and then the rest of the line
+pub word-then : {a b at p r : ℕ} {t o o′ o″ : List ℕ} (w : List ℕ) (x : ℕ) → Put a at (w ++ (x ∷ [])) o o′ p → Put b p t o′ o″ r → Put (a + b) at (w ++ (x ∷ t)) o o″ r
+word-then {at} {t} {o} w x y z =
+    let all = text-then y z in
+    record { put = all .put ∙ ap (λ (l : List ℕ). take at o ++ l) (append-assoc w (x ∷ []) t); within = all .within }
 
 -- ---- the rights' lines
 
@@ -94,27 +127,31 @@ pub right-put : {at p q r : ℕ} {o o′ o″ o‴ : List ℕ} (month : ℕ) (ri
     → Put 21 at (decimalText month ++ (space ∷ [])) o o′ p
     → Put 21 p (decimalText permit ++ (space ∷ [])) o′ o″ q
     → Put 84 q (lineOf (decimalText (getD report (4 * i) 0) ∷ decimalText (getD report (4 * i + 1) 0) ∷ decimalText (getD report (4 * i + 2) 0) ∷ decimalText (getD report (4 * i + 3) 0) ∷ [])) o″ o‴ r
-    → Put 126 at (rightLine month rights report i) o o‴ r
-unfolding rightLine rightRecord
+    → Put 126 at (rightLine month (rightOf rights i) report i) o o‴ r
+unfolding rightLine rightOf rightRecord
 right-put {p} {q} {o′} {o″} month rights report i permit e x y z =
     word-then (decimalText month) space x
     (word-then (decimalText (le32At rights (76 * i))) space (subst (λ (k : ℕ). Put 21 p (decimalText k ++ (space ∷ [])) o′ o″ q) e y) z)
 
-module _ (month : ℕ) (rights report o : List ℕ) where
-  pub lines-none : Put 0 0 (rightLines month rights report 0) o o 0
+module _ (month : ℕ) (rights report o : List ℕ) (from : ℕ) where
+  pub lines-none : Put 0 from (rightLines month (rightsOf rights) report 0) o o from
   unfolding rightLines
-  lines-none = record { put = refl; within = omega arith }
+  lines-none = record { put = sym (append-nil (take from o)); within = omega arith }
 
-  pub lines-more : (i p r : ℕ) (o′ o″ : List ℕ) → Put (126 * i) 0 (rightLines month rights report i) o o′ p
-      → Put 126 p (rightLine month rights report i) o′ o″ r → Put (126 * (i + 1)) 0 (rightLines month rights report (i + 1)) o o″ r
+  pub lines-more : (i p r : ℕ) (o′ o″ : List ℕ) → i < rightCount rights → Put (126 * i) from (rightLines month (rightsOf rights) report i) o o′ p
+      → Put 126 p (rightLine month (rightOf rights i) report i) o′ o″ r → Put (126 * (i + 1)) from (rightLines month (rightsOf rights) report (i + 1)) o o″ r
   unfolding rightLines
-  lines-more i p r o′ o″ x y = record {
-    put = rw (add-one i) (y .put ∙ ap (λ (l : List ℕ). l ++ rightLine month rights report i) (x .put));
+  lines-more i p r o′ o″ h x y = record {
+    put = rw (add-one i)
+        (y .put ∙ ap (λ (l : List ℕ). l ++ rightLine month (rightOf rights i) report i) (x .put)
+        ∙ append-assoc (take from o) (rightLines month (rightsOf rights) report i) (rightLine month (rightOf rights i) report i)
+        ∙ ap (λ (x : Right). take from o ++ (rightLines month (rightsOf rights) report i ++ rightLine month x report i)) (sym (right-is rights i h)));
     within = omega (arith, x .within, y .within);
   }
 
-  pub lines-all : (i n p : ℕ) (o′ : List ℕ) → i ≡ n → n ≤ 256 → Put (126 * i) 0 (rightLines month rights report i) o o′ p → Put 32256 0 (rightLines month rights report n) o o′ p
-  lines-all i n p o′ e h x = record { put = x .put ∙ ap (rightLines month rights report) e; within = omega (arith, x .within) }
+  pub lines-all : (i n p : ℕ) (o′ : List ℕ) → i ≡ n → n ≤ 256 → Put (126 * i) from (rightLines month (rightsOf rights) report i) o o′ p
+      → Put 32256 from (rightLines month (rightsOf rights) report n) o o′ p
+  lines-all i n p o′ e h x = record { put = x .put ∙ ap (λ (k : ℕ). take from o ++ rightLines month (rightsOf rights) report k) e; within = omega (arith, x .within) }
 
 -- ---- the word of the end line
 
@@ -137,18 +174,30 @@ pub end-line-put : {at p q r : ℕ} {o o′ o″ o‴ : List ℕ} (month outflow
 unfolding endLine
 end-line-put month outflow evaporation storage pending x y z = word-then (decimalText month) space x (word-then endWord space y z)
 
+-- the line of a refusal
+pub refusal-put : {at p q r : ℕ} {o o′ o″ o‴ : List ℕ} (number place : ℕ)
+    → Put 8 at (refusedWord ++ (space ∷ [])) o o′ p
+    → Put 21 p (decimalText number ++ (space ∷ [])) o′ o″ q
+    → Put 21 q (decimalText place ++ (lineEnd ∷ [])) o″ o‴ r
+    → Put 50 at (refusalLine (record { number = number; place = place })) o o‴ r
+unfolding refusalLine
+refusal-put number place x y z = word-then refusedWord space x (word-then (decimalText number) space y z)
+
 -- ---- the month
 
-module _ (month : ℕ) (rights : List ℕ) (rows reservoirs : ℕ) (report : List ℕ) (storage pending : ℕ) (o o′ o″ : List ℕ) (p r x : ℕ) where
-  pub month-put : CanList rights rows reservoirs report o → length o″ ≡ length o
-      → Put 32256 0 (rightLines month rights report (rightCount rights)) o o′ p
-      → x ≡ sumTo reservoirs (λ v. getD report (4 * rightCount rights + 2 * rows + v) 0)
-      → Put 109 p (endLine month (getD report (4 * rightCount rights + 2 * (rows - 1)) 0) x storage pending) o′ o″ r
-      → Counts r o″ × (take r o″ ≡ monthText month rights rows reservoirs report storage pending)
-  unfolding monthText outflowIn evaporationIn
-  month-put can size lines sum end =
-      let fits : r ≤ length o″ = omega (arith, can .room, lines .within, end .within) in (
-        (fits, sym (length-take-le r o″ fits)),
-        end .put ∙ ap (λ (l : List ℕ). l ++ endLine month (getD report (4 * rightCount rights + 2 * (rows - 1)) 0) x storage pending) (lines .put)
-            ∙ ap (λ (y : ℕ). rightLines month rights report (rightCount rights) ++ endLine month (getD report (4 * rightCount rights + 2 * (rows - 1)) 0) y storage pending) sum,
-      )
+module _ (st rs ps ri report board o o′ o″ : List ℕ) (month at p r x y z : ℕ) where
+  pub month-put : Put 32256 at (rightLines month (rightsOf ri) report (rightCount ri)) o o′ p
+      → x ≡ sumTo (reservoirCount rs) (λ v. getD report (4 * rightCount ri + 2 * rowsOf st + v) 0)
+      → y ≡ sumTo (reservoirCount rs) (storageAt board)
+      → z ≡ sumTo (rowsOf st) (λ w. sumTo 11 (λ k. dueAt board w (suc k)))
+      → Put 109 p (endLine month (getD report (4 * rightCount ri + 2 * (rowsOf st - 1)) 0) x y z) o′ o″ r
+      → Put mostText at (monthText (bodies st rs ps ri) month report board) o o″ r
+  unfolding monthText outflowIn evaporationIn bodies storageSum dueSum
+  month-put lines ex ey ez end = record {
+    put =
+        end .put ∙ ap (λ (l : List ℕ). l ++ endLine month (getD report (4 * rightCount ri + 2 * (rowsOf st - 1)) 0) x y z) (lines .put)
+        ∙ append-assoc (take at o) (rightLines month (rightsOf ri) report (rightCount ri)) (endLine month (getD report (4 * rightCount ri + 2 * (rowsOf st - 1)) 0) x y z)
+        ∙ rw (rights-are ri, reservoirs-are rs, rows-are st)
+        (λ i. take at o ++ (rightLines month (rightsOf ri) report (rightCount ri) ++ endLine month (getD report (4 * rightCount ri + 2 * (rowsOf st - 1)) 0) (ex i) (ey i) (ez i)));
+    within = omega (arith, lines .within, end .within);
+  }

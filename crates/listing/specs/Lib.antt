@@ -1,2 +1,5 @@
 pub mod Listing
+pub mod Putting
+pub mod Run
+pub mod Steps
 pub mod October

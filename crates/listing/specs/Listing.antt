@@ -1,12 +1,15 @@
--- The text of a month (01, "One October, whole"), byte by byte, and what the functions that put it into a lent list promise.
+-- The lines of a listing (01, "One October, whole"), byte by byte.
 use mathlib.Core.Bool.{true, false}
 use mathlib.Core.List.{List, [], _∷_, _++_, map}
-use mathlib.Core.Path.{_≡_}
-use Prim.Native.Nat.{ℕ, zero, suc, _+_, _-_, _*_, _/_, _%_, _≤_, _<_}
+use Prim.Native.Nat.{ℕ, zero, suc, _+_, _*_, _/_, _%_}
 use lib.Dec.{ltb}
-use lib.ListN.{length, getD, take}
+use lib.ListN.{length, getD}
 use Rattle.general.specs.Sums.{sumTo}
-use Rattle.records.specs.Records.{rightCount, rightRecord}
+use Rattle.rules.specs.Basin.{Right, Basin, noRight}
+use Rattle.rules.specs.Path.{lastRow}
+use Rattle.rules.specs.Tally.{Answer}
+use Rattle.boards.specs.Board.{storageSum, dueSum}
+use Rattle.boards.specs.Report.{rowsFrom, reservoirsFrom}
 
 -- ---- a number
 
@@ -37,59 +40,61 @@ lineOf [] = lineEnd ∷ []
 lineOf (w ∷ []) = w ++ (lineEnd ∷ [])
 lineOf (w ∷ v ∷ l) = w ++ (space ∷ lineOf (v ∷ l))
 
--- "A right's line is the month, its permit and its four numbers of the report."
-unfoldable pub rightLine : ℕ → List ℕ → List ℕ → ℕ → List ℕ
-rightLine month rights report i =
-    lineOf (map decimalText (month ∷ (rightRecord rights i) .permit ∷ getD report (4 * i) 0 ∷ getD report (4 * i + 1) 0 ∷ getD report (4 * i + 2) 0 ∷ getD report (4 * i + 3) 0 ∷ []))
+-- The line of right r, the i-th of the list: the month's count, the permit, and the four numbers that the report has of it.
+unfoldable pub rightLine : ℕ → Right → List ℕ → ℕ → List ℕ
+rightLine month r report i =
+    lineOf (map decimalText (month ∷ r .permit ∷ getD report (4 * i) 0 ∷ getD report (4 * i + 1) 0 ∷ getD report (4 * i + 2) 0 ∷ getD report (4 * i + 3) 0 ∷ []))
 
--- the lines of the first n rights
-unfoldable pub rightLines : ℕ → List ℕ → List ℕ → ℕ → List ℕ
+-- the lines of the first n rights of the list
+unfoldable pub rightLines : ℕ → List Right → List ℕ → ℕ → List ℕ
 rightLines month rights report zero = []
-rightLines month rights report (suc n) = rightLines month rights report n ++ rightLine month rights report n
+rightLines month rights report (suc n) = rightLines month rights report n ++ rightLine month (getD rights n noRight) report n
 
 -- the letters e, n, d
 abbrev pub endWord : List ℕ
 endWord = 101 ∷ 110 ∷ 100 ∷ []
 
--- "The end line is month, `end`, outflow .., evaporation, storage, pending"
+-- the month's count, the word, and four numbers of the whole basin
 unfoldable pub endLine : ℕ → ℕ → ℕ → ℕ → ℕ → List ℕ
 endLine month outflow evaporation storage pending =
     lineOf (decimalText month ∷ endWord ∷ map decimalText (outflow ∷ evaporation ∷ storage ∷ pending ∷ []))
 
 -- ---- a month
 
--- After the four numbers of each right the report has two of each row, of which the first is its flow: outflow is "the flow at the last row".
-unfoldable pub outflowIn : ℕ → ℕ → List ℕ → ℕ
-outflowIn rights rows report = getD report (4 * rights + 2 * (rows - 1)) 0
+-- outflow: the flow that the report has of the last row
+unfoldable pub outflowIn : Basin → List ℕ → ℕ
+outflowIn b report = getD report (rowsFrom b + 2 * lastRow b) 0
 
--- After the rows' numbers stands the evaporation of each reservoir; the end line has it "over the whole basin".
-unfoldable pub evaporationIn : ℕ → ℕ → ℕ → List ℕ → ℕ
-evaporationIn rights rows reservoirs report = sumTo reservoirs (λ v. getD report (4 * rights + 2 * rows + v) 0)
+-- what the report says that the reservoirs lost, together
+unfoldable pub evaporationIn : Basin → List ℕ → ℕ
+evaporationIn b report = sumTo (length (b .reservoirs)) (λ v. getD report (reservoirsFrom b + v) 0)
 
--- a line for each right, and the end line
-unfoldable pub monthText : ℕ → List ℕ → ℕ → ℕ → List ℕ → ℕ → ℕ → List ℕ
-monthText month rights rows reservoirs report storage pending =
-    rightLines month rights report (rightCount rights)
-    ++ endLine month (outflowIn (rightCount rights) rows report) (evaporationIn (rightCount rights) rows reservoirs report) storage pending
+-- A line for each right, and the end line, whose storage and returns on their way are those of the board that the month leaves.
+unfoldable pub monthText : Basin → ℕ → List ℕ → List ℕ → List ℕ
+monthText b month report board =
+    rightLines month (b .rights) report (length (b .rights))
+    ++ endLine month (outflowIn b report) (evaporationIn b report) (storageSum b board) (dueSum b board)
 
--- ---- what the functions ask and promise
+-- ---- a refusal
 
--- A line of a right has at most six numbers of at most 20 digits, and six bytes after them: 126 bytes. The end line has at most 109.
-pub record CanList (rights : List ℕ) (rows reservoirs : ℕ) (report out : List ℕ) : Type 0 where
-  pub few : rightCount rights ≤ 256
-  pub some-row : 0 < rows
-  pub few-rows : rows ≤ 64
-  pub few-reservoirs : reservoirs ≤ 8
-  pub told : 4 * rightCount rights + 2 * rows + reservoirs ≤ length report
-  pub small : (v : ℕ) → v < reservoirs → getD report (4 * rightCount rights + 2 * rows + v) 0 ≤ 2_000_000_000
-  pub room : 40_000 ≤ length out
+-- the letters r, e, f, u, s, e, d
+abbrev pub refusedWord : List ℕ
+refusedWord = 114 ∷ 101 ∷ 102 ∷ 117 ∷ 115 ∷ 101 ∷ 100 ∷ []
 
--- A text was put into a list from the place `at` on: what stood before it is kept. It ends at the place r, at most `most` places on.
-pub record Put (most at : ℕ) (text o o′ : List ℕ) (r : ℕ) : Type 0 where
-  pub put : take r o′ ≡ take at o ++ text
-  pub within : r ≤ at + most
+-- the word, the refusal's number and its place
+unfoldable pub refusalLine : Answer → List ℕ
+refusalLine a = lineOf (refusedWord ∷ decimalText (a .number) ∷ decimalText (a .place) ∷ [])
 
--- the same for a text that ends where its length says
-pub record PutWhole (at : ℕ) (text o o′ : List ℕ) (r : ℕ) : Type 0 where
-  pub put : take r o′ ≡ take at o ++ text
-  pub ends : r ≡ at + length text
+-- ---- the header
+
+-- MONTH PERMIT RIVER STORE WHY AT
+unfoldable pub header : List ℕ
+header =
+    lineOf
+    ((77 ∷ 79 ∷ 78 ∷ 84 ∷ 72 ∷ [])
+    ∷ (80 ∷ 69 ∷ 82 ∷ 77 ∷ 73 ∷ 84 ∷ [])
+    ∷ (82 ∷ 73 ∷ 86 ∷ 69 ∷ 82 ∷ [])
+    ∷ (83 ∷ 84 ∷ 79 ∷ 82 ∷ 69 ∷ [])
+    ∷ (87 ∷ 72 ∷ 89 ∷ [])
+    ∷ (65 ∷ 84 ∷ [])
+    ∷ [])

@@ -1,21 +1,19 @@
--- 01's "One October, whole" as text, byte by byte, and the text of three numbers.
+-- 01's "One October, whole" as a listing of two files, byte by byte, and the text of three numbers.
 use mathlib.Core.List.{List, [], _∷_, _++_}
 use mathlib.Core.Path.{_≡_}
 use Prim.Native.Nat.{ℕ}
-use Rattle.layout.specs.File.{sectionOf}
 use Rattle.basin.specs.October.{octoberFile}
-use Rattle.listing.specs.Listing.{decimalText, monthText}
+use Rattle.listing.specs.Listing.{decimalText}
+use Rattle.listing.specs.Run.{listingOf, ListingNames}
 
--- the report of this October: four numbers of each right, flow and available flow of each row, and the evaporation
-abbrev pub octoberReport : List ℕ
-octoberReport =
-    (1500 ∷ 0 ∷ 0 ∷ 0 ∷ [])
-    ++ (1201 ∷ 0 ∷ 0 ∷ 0 ∷ [])
-    ++ (701 ∷ 0 ∷ 2 ∷ 300 ∷ [])
-    ++ (0 ∷ 600 ∷ 0 ∷ 0 ∷ [])
-    ++ (0 ∷ 0 ∷ 1 ∷ 100 ∷ [])
-    ++ (1899 ∷ 1299 ∷ 798 ∷ 798 ∷ 0 ∷ 0 ∷ [])
-    ++ (50 ∷ [])
+-- its one sheet of runoff: 2000, 700 and 300
+abbrev pub octoberMonths : List ℕ
+octoberMonths = 208 ∷ 7 ∷ 0 ∷ 0 ∷ 188 ∷ 2 ∷ 0 ∷ 0 ∷ 44 ∷ 1 ∷ 0 ∷ 0 ∷ []
+
+-- MONTH PERMIT RIVER STORE WHY AT
+abbrev headLine : List ℕ
+headLine =
+    77 ∷ 79 ∷ 78 ∷ 84 ∷ 72 ∷ 32 ∷ 80 ∷ 69 ∷ 82 ∷ 77 ∷ 73 ∷ 84 ∷ 32 ∷ 82 ∷ 73 ∷ 86 ∷ 69 ∷ 82 ∷ 32 ∷ 83 ∷ 84 ∷ 79 ∷ 82 ∷ 69 ∷ 32 ∷ 87 ∷ 72 ∷ 89 ∷ 32 ∷ 65 ∷ 84 ∷ 10 ∷ []
 
 -- 0 11 1500 0 0 0
 abbrev firstLine : List ℕ
@@ -41,8 +39,12 @@ fifthLine = 48 ∷ 32 ∷ 49 ∷ 53 ∷ 32 ∷ 48 ∷ 32 ∷ 48 ∷ 32 ∷ 49 �
 abbrev sixthLine : List ℕ
 sixthLine = 48 ∷ 32 ∷ 101 ∷ 110 ∷ 100 ∷ 32 ∷ 48 ∷ 32 ∷ 53 ∷ 48 ∷ 32 ∷ 49 ∷ 48 ∷ 53 ∷ 49 ∷ 32 ∷ 52 ∷ 48 ∷ 51 ∷ 10 ∷ []
 
+abbrev pub sevenLines : List ℕ
+sevenLines = headLine ++ firstLine ++ secondLine ++ thirdLine ++ fourthLine ++ fifthLine ++ sixthLine
+
 pub record Listed : Type 0 where
   pub zero : decimalText 0 ≡ 48 ∷ []
   pub ten : decimalText 10 ≡ 49 ∷ 48 ∷ []
   pub fifteen-hundred : decimalText 1500 ≡ 49 ∷ 53 ∷ 48 ∷ 48 ∷ []
-  pub october : monthText 0 (sectionOf octoberFile 3) 3 1 octoberReport 1051 403 ≡ firstLine ++ secondLine ++ thirdLine ++ fourthLine ++ fifthLine ++ sixthLine
+  -- whatever stations are named among those that may be, since each of this October's grants leaves one
+  pub october : (names : ℕ → ℕ → ℕ) → ListingNames octoberFile octoberMonths names → listingOf octoberFile octoberMonths names ≡ sevenLines

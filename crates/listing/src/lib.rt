@@ -1,3 +1,4 @@
-// The text of a month's lines, put into a lent list of bytes, so that a program writes a month with one write (document 01).
+// The text of a listing, put into a lent list of bytes; specs/Run has the listing of two files as a definition.
+pub mod frame;
 pub mod month;
 pub mod words;

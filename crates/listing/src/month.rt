@@ -1,15 +1,22 @@
 // The lines of a month: one for each right, and the end line.
 ghost use mathlib.Core.Path.{_≡_};
+ghost use mathlib.Core.List.{List};
 ghost use Prim.Native.Nat.{ℕ, _+_, _*_, _≤_, _<_};
-ghost use lib.ListN.{length, getD, take};
+ghost use lib.ListN.{length, getD};
 ghost use Rattle.general.specs.Sums.{sumTo};
-ghost use Rattle.records.specs.Records.{rightCount};
-ghost use Rattle.io.specs.Counts.{Counts};
-ghost use Rattle.listing.specs.Listing.{rightLine, rightLines, endLine, monthText, CanList, Put};
+ghost use Rattle.records.specs.Records.{rightCount, rightOf, rightsOf};
+ghost use Rattle.boards.specs.Bodies.{bodies};
+ghost use Rattle.listing.specs.Listing.{rightLine, rightLines, endLine, monthText};
+ghost use Rattle.listing.specs.Putting.{mostText, CanList, Put};
 use crate::words::put_end_word;
 use crate::words::put_field;
 use crate::words::put_four;
+use calls::stock::due_sum;
+use calls::stock::storage_sum;
 use layout::bytes::le32;
+
+// The most bytes that the text of a month has.
+pub const MOST_TEXT: usize = 32365;
 
 fn wide(x: u32) -> u64
     ensures { λ r. ⌜ r ≡ x ⌝ }
@@ -27,7 +34,7 @@ fn put_right(
     i: usize,
 ) -> usize
     requires { ⌜ (at + 126 ≤ length (now out)) × (i < rightCount (now rights)) × (4 * rightCount (now rights) ≤ length (now report)) ⌝ }
-    ensures { λ r. ⌜ Put 126 at (rightLine month (now (rights .entry)) (now (report .entry)) i) (now (out .entry)) (now (out .exit)) r ⌝ }
+    ensures { λ r. ⌜ Put 126 at (rightLine month (rightOf (now (rights .entry)) i) (now (report .entry)) i) (now (out .entry)) (now (out .exit)) r ⌝ }
 {
     let second = put_field(out, at, month, b' ');
     let third = put_field(out, second, wide(le32(rights, 76 * i)), b' ');
@@ -42,13 +49,13 @@ fn put_right(
     )
 }
 
-// The lines of all rights, from the start of the list on.
-fn put_rights(out: &mut [u8], month: u64, rights: &[u8], report: &[u64]) -> usize
-    requires { ⌜ (32256 ≤ length (now out)) × (rightCount (now rights) ≤ 256) × (4 * rightCount (now rights) ≤ length (now report)) ⌝ }
-    ensures { λ r. ⌜ Put 32256 0 (rightLines month (now (rights .entry)) (now (report .entry)) (rightCount (now (rights .entry)))) (now (out .entry)) (now (out .exit)) r ⌝ }
+// The lines of all rights.
+fn put_rights(out: &mut [u8], from: usize, month: u64, rights: &[u8], report: &[u64]) -> usize
+    requires { ⌜ (from + 32256 ≤ length (now out)) × (rightCount (now rights) ≤ 256) × (4 * rightCount (now rights) ≤ length (now report)) ⌝ }
+    ensures { λ r. ⌜ Put 32256 from (rightLines month (rightsOf (now (rights .entry))) (now (report .entry)) (rightCount (now (rights .entry)))) (now (out .entry)) (now (out .exit)) r ⌝ }
 {
     let n = rights.len() / 76;
-    let mut at = 0;
+    let mut at = from;
     for i in 0..n {
         at = put_right(out, at, month, rights, report, i);
     }
@@ -84,24 +91,27 @@ fn put_end(
     put_four(out, third, outflow, evaporation, storage, pending)
 }
 
-// The whole month, from the start of the list on. The answer is the number of bytes.
+// The whole month, by its report and the board that it left.
 pub fn put_month(
-    month: u64,
-    rights: &[u8],
-    rows: usize,
-    reservoirs: usize,
-    report: &[u64],
-    storage: u64,
-    pending: u64,
     out: &mut [u8],
+    at: usize,
+    month: u64,
+    stations: &[u8],
+    reservoirs: &[u8],
+    rights: &[u8],
+    board: &[u64],
+    report: &[u64],
 ) -> usize
-    requires { ⌜ CanList (now rights) rows reservoirs (now report) (now out) ⌝ }
-    ensures { λ r. ⌜ Counts r (now (out .exit)) ⌝ }
-    ensures { λ r. ⌜ take r (now (out .exit)) ≡ monthText month (now (rights .entry)) rows reservoirs (now (report .entry)) storage pending ⌝ }
+    requires { ⌜ CanList (now stations) (now reservoirs) (now rights) (now board) (now report) (now out) at ⌝ }
+    ensures { λ r. ⌜ ((ps : List ℕ) → Put mostText at (monthText (bodies (now (stations .entry)) (now (reservoirs .entry)) ps (now (rights .entry))) month (now (report .entry)) (now (board .entry))) (now (out .entry)) (now (out .exit)) r) ⌝ }
 {
-    let n = rights.len() / 76;
-    let at = put_rights(out, month, rights, report);
-    let outflow = report[4 * n + 2 * (rows - 1)];
-    let evaporation = evaporation_sum(report, 4 * n + 2 * rows, reservoirs);
-    put_end(out, at, month, outflow, evaporation, storage, pending)
+    let rows = stations.len() / 8;
+    let lakes = reservoirs.len() / 68;
+    let first = 4 * (rights.len() / 76);
+    let end = put_rights(out, at, month, rights, report);
+    let outflow = report[first + 2 * (rows - 1)];
+    let evaporation = evaporation_sum(report, first + 2 * rows, lakes);
+    let storage = storage_sum(lakes, board);
+    let pending = due_sum(rows, board);
+    put_end(out, end, month, outflow, evaporation, storage, pending)
 }

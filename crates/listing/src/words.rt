@@ -3,7 +3,8 @@ ghost use mathlib.Core.List.{[], _∷_, _++_};
 ghost use mathlib.Core.Path.{_≡_};
 ghost use Prim.Native.Nat.{_+_, _/_, _%_, _≤_, _<_};
 ghost use lib.ListN.{length, set};
-ghost use Rattle.listing.specs.Listing.{digit as digitOf, decimalText, endWord, lineOf, space, Put, PutWhole};
+ghost use Rattle.listing.specs.Listing.{digit as digitOf, decimalText, endWord, lineOf, space};
+ghost use Rattle.listing.specs.Putting.{Put, PutWhole};
 
 fn digit(d: u64) -> u8
     requires { ⌜ d < 10 ⌝ }

@@ -1,57 +1,67 @@
-// Runs the months of `months.bin` on the basin of `basin.bin`, both in the folder that it is run in, and prints a listing: the header, the
-// lines of each month, and at a refusal its number and place. Given names, two to a run, it lists those files instead, run after run.
+// Lists the months of `months.bin` on the basin of `basin.bin`, both in the folder that it is run in. Given names, two to a listing, it lists
+// those files instead, one listing after another. All that is printed is made by `lister`; here it is read and written.
 ghost use Prim.Native.Nat.{_<_};
 ghost use Rattle.io.specs.Counts.{Counts};
-use calls::answer::on_file;
-use libc::STDOUT_FILENO;
+use files::fill;
+use lister::opening::open_listing;
 
-mod months;
+mod blocks;
+mod output;
 
-// A file that can't be opened counts as empty. The buffer is longer than any file that keeps the layout, so a file that is cut here is
-// refused as the whole would be.
-fn read_file(path: &[u8], buf: &mut [u8]) -> usize
+// The bytes of the basin file. One that can't be opened or read counts as empty, and the reason goes to standard error. The buffer is longer
+// than any file that keeps the layout, so a file that is cut here is refused as the whole would be.
+fn read_basin(path: &[u8], buf: &mut [u8]) -> usize
     ensures { λ r. ⌜ Counts r (now (buf .exit)) ⌝ }
 {
     let fd = os::open_read(path);
     if fd < 0 {
+        os::fail(path);
         return 0;
     }
-    let n = io::read_full(fd, buf);
+    let filled = fill(fd, buf);
+    if filled.failed {
+        os::fail(path);
+        libc::close(fd);
+        return 0;
+    }
     libc::close(fd);
-    n
+    filled.count
 }
 
-fn run(file: &[u8], path: &[u8]) {
-    let answer = on_file(file);
-    if answer.number != 0 {
-        months::print_refusal(answer);
-        return;
+// The listing of a basin. Answers whether it could be written. A file of months that can't be opened counts as empty.
+fn list_months(file: &[u8], months: &[u8]) -> bool {
+    let mut board = [0u64; 970];
+    let mut out = io::large_buffer();
+    let opened = open_listing(file, &mut board, &mut out);
+    let at = opened.at;
+    if !opened.more {
+        return output::write(&out[..at]);
     }
-    let fd = os::open_read(path);
+    let fd = os::open_read(months);
     if fd < 0 {
-        return;
+        os::fail(months);
+        return output::write(&out[..at]);
     }
-    months::run_all(fd, file);
+    let written = blocks::list_all(fd, months, file, opened, &mut board, &mut out);
     libc::close(fd);
+    written
 }
 
-// The header always comes first.
-fn list(basin: &[u8], months: &[u8]) {
-    io::write_all(STDOUT_FILENO, b"MONTH PERMIT RIVER STORE WHY AT\n");
+fn list(basin: &[u8], months: &[u8]) -> bool {
     let mut buf = io::large_buffer();
-    let n = read_file(basin, &mut buf);
-    run(&buf[..n], months);
+    let n = read_basin(basin, &mut buf);
+    list_months(&buf[..n], months)
 }
 
 // The names that stand from argument i on; a name that is not there names no file.
-fn list_named(i: usize)
+fn list_named(i: usize) -> bool
     requires { ⌜ i < 18446744073709551615 ⌝ }
 {
     let mut basin = io::buffer();
     let b = os::arg(i, &mut basin);
     let mut months = io::buffer();
     let m = os::arg(i + 1, &mut months);
-    list(&basin[..b], &months[..m]);
+    list(&basin[..b], &months[..m])
 }
 
 fn main() {
@@ -60,8 +70,10 @@ fn main() {
         list(b"basin.bin", b"months.bin");
         return;
     }
-    let runs = count / 2;
-    for k in 0..runs {
-        list_named(2 * k + 1);
+    let listings = count / 2;
+    for k in 0..listings {
+        if !list_named(2 * k + 1) {
+            return;
+        }
     }
 }

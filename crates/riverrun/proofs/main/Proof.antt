@@ -1,16 +1,16 @@
 -- `riverrun::main` meets its contract. Assumes nothing.
-use Rattle.riverrun.proofs.main.Statement.{statement}
-use Rattle.riverrun.proofs.main.Tie as tie
 use mathlib.Core.Path.{_≡_, refl}
 use Prim.Native.Nat.{_/_, _-_, _≤_, _<_}
 use native.Mathlib.Omega.{arith}
 use borrow.Author.Needs.{needs}
+use Rattle.riverrun.proofs.main.Statement.{statement}
+use Rattle.riverrun.proofs.main.Tie as tie
 
 abbrev Inv-loop : tie.InvT-loop
-Inv-loop count runs k₀ k = (runs ≡ count / 2) × (count < 18446744073709551616) × (k ≤ runs)
+Inv-loop count listings k₀ k = (listings ≡ count / 2) × (count < 18446744073709551616) × (k ≤ listings)
 
 abbrev μ-loop : tie.MeasureT-loop
-μ-loop count runs k₀ k = runs - k
+μ-loop count listings k₀ k = listings - k
 
 arg-count-requires : tie.Need-arg-count-requires Inv-loop μ-loop
 arg-count-requires c κs = search needs
@@ -39,6 +39,9 @@ add-list-named c = omega arith
 list-named-requires : tie.Need-list-named-requires Inv-loop μ-loop
 list-named-requires c κs = omega arith
 
+returns-2 : tie.Need-returns-2 Inv-loop μ-loop
+returns-2 c = search needs
+
 add-k : tie.Need-add-k Inv-loop μ-loop
 add-k c = omega arith
 
@@ -48,8 +51,8 @@ loop-less c = search needs
 loop-again : tie.Need-loop-again Inv-loop μ-loop
 loop-again c = (omega arith, omega arith, omega arith)
 
-returns-2 : tie.Need-returns-2 Inv-loop μ-loop
-returns-2 c = search needs
+returns-3 : tie.Need-returns-3 Inv-loop μ-loop
+returns-3 c = search needs
 
 pub main-spec : {M : Type 1} → statement M
 main-spec =
@@ -66,7 +69,8 @@ main-spec =
     mul-list-named
     add-list-named
     list-named-requires
+    returns-2
     add-k
     loop-less
     loop-again
-    returns-2)
+    returns-3)

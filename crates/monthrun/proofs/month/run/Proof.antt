@@ -26,9 +26,10 @@ decode-patterns-requires c κs =
 
 begin-requires : tie.Need-begin-requires
 begin-requires c κs =
-    let s = c .before .before .before .before .before .before .before .before .before .before .before .before .before .args in
-    (can-gather (now (s .stations)) (now (s .reservoirs)) (now (s .patterns)) (now (s .rights)) (now (s .runoff)) (now (s .board)) (now (s .report)) (c .before .before .before .before .before .before .before .before .before .before .before .before .before .pre) _ (c .before .before .before .before .before .rows-below .ensures) _ (c .before .before .before .before .decode-patterns .ensures) _ _ (omega arith) (omega arith) (getD-zeros 64) (getD-zeros 64),
-    can-open (now (s .stations)) (now (s .reservoirs)) (now (s .patterns)) (now (s .rights)) (now (s .runoff)) (now (s .board)) (now (s .report)) (c .before .before .before .before .before .before .before .before .before .before .before .before .before .pre))
+    let s = c .before .before .before .before .before .before .before .before .before .before .before .before .before .args in (
+      can-gather (now (s .stations)) (now (s .reservoirs)) (now (s .patterns)) (now (s .rights)) (now (s .runoff)) (now (s .board)) (now (s .report)) (c .before .before .before .before .before .before .before .before .before .before .before .before .before .pre) _ (c .before .before .before .before .before .rows-below .ensures) _ (c .before .before .before .before .decode-patterns .ensures) _ _ (omega arith) (omega arith) (getD-zeros 64) (getD-zeros 64),
+      can-open (now (s .stations)) (now (s .reservoirs)) (now (s .patterns)) (now (s .rights)) (now (s .runoff)) (now (s .board)) (now (s .report)) (c .before .before .before .before .before .before .before .before .before .before .before .before .before .pre),
+    )
 
 slice-read-in-year : tie.Need-slice-read-in-year
 slice-read-in-year c = omega (arith, c .before .before .before .before .before .before .before .before .before .before .before .before .before .before .before .before .before .pre .size)

@@ -1,0 +1,64 @@
+-- A listing is opened: the header, and the file's refusal or the fresh board. Assumes nothing.
+use mathlib.Core.Bool.{true, false}
+use mathlib.Core.List.{List, _++_}
+use mathlib.Core.Option.{Option, none, some}
+use mathlib.Core.Path.{_≡_, refl, sym, ap, _∙_}
+use Prim.Native.Nat.{ℕ}
+use native.Mathlib.Omega.{arith}
+use lib.ListN.{length}
+use Rattle.rules.specs.Tally.{Answer}
+use Rattle.basin.specs.declared.Verdict.the-variants.{Accepted}
+use Rattle.basin.specs.Check.{checkOf}
+use Rattle.records.specs.Records.{basinOf}
+use Rattle.boards.specs.Calls.{fileRefusal, orElse, unless, freshRefusal, freshBoard, Fresh, freshSettled, freshOf}
+use Rattle.calls.specs.Answers.{settled}
+use Rattle.calls.proofs.Answers.{accepted-of, no-refusal, settled-some}
+use Rattle.listing.specs.Listing.{refusalLine, header}
+use Rattle.listing.specs.Putting.{Put}
+use Rattle.listing.specs.Run.{Step, begin}
+use Rattle.listing.proofs.Texts.{text-then}
+use Rattle.lister.specs.Lister.{opening, Opened}
+
+or-none : (v : Option Answer) → orElse v none ≡ v
+unfolding orElse
+or-none none = refl
+or-none (some a) = refl
+
+settled-answer : (v : Option Answer) (f bd : List ℕ) → (freshSettled v f bd) .answer ≡ settled v
+unfolding freshSettled settled
+settled-answer none f bd = refl
+settled-answer (some a) f bd = refl
+
+module _ (f bd bd′ : List ℕ) (size : length bd ≡ 970) (a : Answer) (told : record { answer = a; board = bd′ } ≡ freshOf f bd) where
+  fresh-is : freshOf f bd ≡ freshSettled (fileRefusal f) f bd
+  unfolding freshOf freshRefusal unless
+  fresh-is = rw (size, or-none (fileRefusal f))
+
+  by-file : record { answer = a; board = bd′ } ≡ freshSettled (fileRefusal f) f bd
+  by-file = told ∙ fresh-is
+
+  answer-is : a ≡ settled (fileRefusal f)
+  answer-is = ap (λ (x : Fresh). x .answer) by-file ∙ settled-answer (fileRefusal f) f bd
+
+  module _ (out o′ : List ℕ) (q : ℕ) (head : Put 32 0 header out o′ q) where
+    pub refused-open : (a .number ≡ 0 → ⊥) → (out′ : List ℕ) (r : ℕ) → Put 50 q (refusalLine a) o′ out′ r → Opened f bd out bd′ out′ (record { months = 0; at = r; more = false })
+    unfolding freshSettled opening
+    refused-open n out′ r line =
+        let v : fileRefusal f ≡ some a = settled-some (fileRefusal f) a answer-is n in
+        let kept : bd′ ≡ bd = ap (λ (x : Fresh). x .board) (by-file ∙ ap (λ (x : Option Answer). freshSettled x f bd) v) in
+        record {
+          text = header ++ refusalLine a;
+          put = text-then head line;
+          equation = (λ z. record { text = header ++ refusalLine a; standing = record { months = 0; board = kept z }; more = false }) ∙ rw v;
+        }
+
+    pub accepted-open : a .number ≡ 0 → Opened f bd out bd′ o′ (record { months = 0; at = q; more = true })
+    unfolding freshSettled opening begin
+    accepted-open n =
+        let v : fileRefusal f ≡ none = no-refusal f bd (accepted-of f a answer-is n) in
+        let made : bd′ ≡ freshBoard (basinOf f) = ap (λ (x : Fresh). x .board) (by-file ∙ ap (λ (x : Option Answer). freshSettled x f bd) v) in
+        record {
+          text = header;
+          put = record { put = head .put; within = omega (arith, head .within) };
+          equation = (λ z. record { text = header; standing = record { months = 0; board = made z }; more = true }) ∙ rw v;
+        }

@@ -1,0 +1,160 @@
+-- A step of a listing tells what the rules define. Assumes nothing.
+use mathlib.Core.Bool.{Bool, true, false}
+use mathlib.Core.List.{List, [], _∷_, _++_, map}
+use mathlib.Core.Option.{Option, none, some}
+use mathlib.Core.Path.{_≡_, refl, sym, ap, _∙_, subst}
+use Prim.Native.Nat.{ℕ, zero, suc, _+_, _*_, _≤_, _<_}
+use native.Mathlib.Omega.{arith}
+use lib.ListN.{length, getD, drop, List·getD-append}
+use Rattle.general.specs.Sums.{sumTo}
+use Rattle.general.specs.Tables.{tab}
+use Rattle.general.proofs.Tests.{eqb-same, eqb-other}
+use Rattle.general.proofs.Tables.{tab-length}
+use Rattle.rules.specs.Accepted.{Accepted}
+use Rattle.rules.specs.Basin.{Right, Basin, noRight, rows}
+use Rattle.rules.specs.Path.{lastRow}
+use Rattle.rules.specs.Month.{MonthRun}
+use Rattle.rules.specs.Tally.{Answer, reportLength, overLimit, overAnswer}
+use Rattle.boards.specs.Board.{storageSum, dueSum}
+use Rattle.boards.specs.Report.{reservoirsFrom, rowsFrom, reportPlace, reportOf, nameIn}
+use Rattle.boards.specs.Calls.{orElse, unless, runOf, boardAfter, Outcome, monthSettled, NamesAllowed}
+use Rattle.steps.specs.Steps.{WentOn}
+use Rattle.listing.specs.Listing.{rightLine, rightLines, decimalText, lineOf, endLine, outflowIn, evaporationIn, monthText, refusalLine}
+use Rattle.listing.specs.Run.{sheetOf, sheetBytes, partRefusal, Standing, Step, sheetStep, stepOf, PartNames}
+use Rattle.listing.specs.Steps.{StepMeets}
+
+-- ---- the text of a month reads only what the report tells
+
+module _ (month : ℕ) (rights : List Right) (x y : List ℕ) where
+  lines-same : (n : ℕ) → ((p : ℕ) → p < 4 * n → getD x p 0 ≡ getD y p 0) → rightLines month rights x n ≡ rightLines month rights y n
+  unfolding rightLines rightLine
+  lines-same zero h = refl
+  lines-same (suc n) h = λ z. lines-same n (λ p l. h p (omega arith)) z
+      ++ lineOf (map decimalText (month ∷ (getD rights n noRight) .permit
+      ∷ h (4 * n) (omega arith) z ∷ h (4 * n + 1) (omega arith) z ∷ h (4 * n + 2) (omega arith) z ∷ h (4 * n + 3) (omega arith) z ∷ []))
+
+sum-same : (n : ℕ) (f g : ℕ → ℕ) → ((i : ℕ) → i < n → f i ≡ g i) → sumTo n f ≡ sumTo n g
+unfolding sumTo
+sum-same zero f g h = refl
+sum-same (suc n) f g h = λ z. sum-same n f g (λ i l. h i (omega arith)) z + h n (omega arith) z
+
+module _ (b : Basin) (h : MonthRun) (names : ℕ → ℕ) (old : List ℕ) where
+  place-same : (p : ℕ) → p < reportLength b → getD (reportOf b h names old) p 0 ≡ getD (reportOf b h names []) p 0
+  unfolding reportOf
+  place-same p l = let k : p < length (tab (reportLength b) (reportPlace b h names)) = rw (tab-length (reportPlace b h names) (reportLength b)) l in
+      List·getD-append (tab (reportLength b) (reportPlace b h names)) (drop (reportLength b) old) 0 p k
+      ∙ sym (List·getD-append (tab (reportLength b) (reportPlace b h names)) (drop (reportLength b) []) 0 p k)
+
+  text-same : 0 < rows b → (month : ℕ) (board : List ℕ) → monthText b month (reportOf b h names old) board ≡ monthText b month (reportOf b h names []) board
+  unfolding monthText outflowIn evaporationIn
+  text-same row month board = λ z.
+      lines-same month (b .rights) (reportOf b h names old) (reportOf b h names []) (length (b .rights)) (λ p l. place-same p (omega arith)) z
+      ++ endLine month (place-same (rowsFrom b + 2 * lastRow b) (omega (arith, row)) z)
+      (sum-same (length (b .reservoirs)) _ _ (λ v l. place-same (reservoirsFrom b + v) (omega arith)) z) (storageSum b board) (dueSum b board)
+
+-- ---- which step a part makes
+
+module _ (b : Basin) (s : Standing) (part : List ℕ) where
+  step-some : (names : ℕ → ℕ) → 0 < length part → stepOf b s part names ≡ sheetStep (partRefusal b part) b s (sheetOf (rows b) part) names
+  unfolding stepOf
+  step-some names = go part
+    where
+      go : (l : List ℕ) → 0 < length l → stepOf b s l names ≡ sheetStep (partRefusal b l) b s (sheetOf (rows b) l) names
+      go [] h = absurd (omega arith)
+      go (x ∷ l) h = refl
+
+  whole-refusal : length part ≡ sheetBytes b → partRefusal b part ≡ overAnswer (overLimit (sheetOf (rows b) part))
+  unfolding partRefusal unless orElse
+  whole-refusal h = rw (h, eqb-same (sheetBytes b))
+
+  short-refusal : (length part ≡ sheetBytes b → ⊥) → partRefusal b part ≡ some (record { number = 6; place = 0 })
+  unfolding partRefusal unless orElse
+  short-refusal h = rw (eqb-other (length part) (sheetBytes b) h)
+
+  -- a part that is turned down
+  pub refused-meets : (a : Answer) → 0 < length part → partRefusal b part ≡ some a → StepMeets b s part (record { text = refusalLine a; standing = s; more = false })
+  unfolding sheetStep
+  refused-meets a some-bytes e = record {
+    names = λ i. 0;
+    allowed = subst (λ (v : Option Answer). NamesAllowed v b (runOf b (sheetOf (rows b) part) (s .board)) (λ i. 0)) (sym e) tt;
+    equation = sym (step-some (λ i. 0) some-bytes ∙ rw e);
+  }
+
+  -- a part too short, or none
+  pub short-meets : 0 < length part → (length part ≡ sheetBytes b → ⊥) → StepMeets b s part (record { text = refusalLine (record { number = 6; place = 0 }); standing = s; more = false })
+  short-meets some-bytes h = refused-meets (record { number = 6; place = 0 }) some-bytes (short-refusal h)
+
+  pub over-meets : (a : Answer) → 0 < length part → length part ≡ sheetBytes b → overAnswer (overLimit (sheetOf (rows b) part)) ≡ some a
+      → StepMeets b s part (record { text = refusalLine a; standing = s; more = false })
+  over-meets a some-bytes h e = refused-meets a some-bytes (whole-refusal h ∙ e)
+
+  -- a month
+  pub month-meets : (old rp′ bd′ : List ℕ) → 0 < rows b → length part ≡ sheetBytes b → overAnswer (overLimit (sheetOf (rows b) part)) ≡ none
+      → NamesAllowed none b (runOf b (sheetOf (rows b) part) (s .board)) (nameIn rp′)
+      → rp′ ≡ reportOf b (runOf b (sheetOf (rows b) part) (s .board)) (nameIn rp′) old
+      → bd′ ≡ boardAfter b (sheetOf (rows b) part) (s .board)
+      → StepMeets b s part (record { text = monthText b (s .months) rp′ bd′; standing = record { months = suc (s .months); board = bd′ }; more = true })
+  unfolding sheetStep
+  month-meets old rp′ bd′ row h e names er eb =
+      let e′ : partRefusal b part ≡ none = whole-refusal h ∙ e in
+      let run : MonthRun = runOf b (sheetOf (rows b) part) (s .board) in
+      let et : monthText b (s .months) rp′ bd′ ≡ monthText b (s .months) (reportOf b run (nameIn rp′) []) (boardAfter b (sheetOf (rows b) part) (s .board)) =
+      ap (λ (x : List ℕ). monthText b (s .months) x bd′) er
+      ∙ text-same b run (nameIn rp′) old row (s .months) bd′
+      ∙ ap (λ (x : List ℕ). monthText b (s .months) (reportOf b run (nameIn rp′) []) x) eb in
+      record {
+        names = nameIn rp′;
+        allowed = subst (λ (v : Option Answer). NamesAllowed v b run (nameIn rp′)) (sym e′) names;
+        equation = (λ z. record { text = et z; standing = record { months = suc (s .months); board = eb z }; more = true }) ∙ sym (step-some (nameIn rp′) (omega (arith, h, row)) ∙ rw e′);
+      }
+
+-- where the file is at its end
+pub ended-meets : (b : Basin) (s : Standing) (part : List ℕ) → 0 < rows b → length part ≡ 0 → StepMeets b s part (record { text = []; standing = s; more = false })
+unfolding stepOf
+ended-meets b s [] row h = record {
+  names = λ i. 0;
+  allowed = subst (λ (v : Option Answer). NamesAllowed v b (runOf b (sheetOf (rows b) []) (s .board)) (λ i. 0)) (sym (short-refusal b s [] (λ e. omega (arith, e, row)))) tt;
+  equation = refl;
+}
+ended-meets b s (x ∷ part) row h = absurd (omega (arith, h))
+
+-- a part that is no whole sheet is a run's last
+pub short-ends : (b : Basin) (s : Standing) (part : List ℕ) → length part < sheetBytes b → (o : Step) → StepMeets b s part o → o .more ≡ false
+unfolding stepOf sheetStep
+short-ends b s part h o w = ap (λ (x : Step). x .more) (w .equation) ∙ go part h
+  where
+    go : (l : List ℕ) → length l < sheetBytes b → (stepOf b s l (w .names)) .more ≡ false
+    go [] k = refl
+    go (x ∷ l) k = rw (short-refusal b s (x ∷ l) (λ e. omega (arith, e, k)))
+
+-- ---- what the month's own promise says, case by case
+
+module _ (b : Basin) (runoff bd rp bd′ rp′ : List ℕ) (a : Answer) (w : WentOn b runoff bd rp (record { answer = a; board = bd′; report = rp′ })) where
+  abbrev settledBy : Option Answer → Outcome
+  settledBy v = monthSettled v b runoff bd rp (nameIn rp′)
+
+  pub went-refused : (a .number ≡ 0 → ⊥) → (overAnswer (overLimit runoff) ≡ some a) × (bd′ ≡ bd)
+  unfolding monthSettled
+  went-refused n = go (overAnswer (overLimit runoff)) (w .equation)
+    where
+      go : (v : Option Answer) → record { answer = a; board = bd′; report = rp′ } ≡ settledBy v → (v ≡ some a) × (bd′ ≡ bd)
+      go none e = absurd (n (ap (λ (x : Outcome). (x .answer) .number) e))
+      go (some x) e = (ap (λ (y : Outcome). some (y .answer)) (sym e), ap (λ (y : Outcome). y .board) e)
+
+  -- v is what is said of the runoff
+  pub record RanBy (v : Option Answer) : Type 0 where
+    pub none-over : v ≡ none
+    pub board : bd′ ≡ boardAfter b runoff bd
+    pub report : rp′ ≡ reportOf b (runOf b runoff bd) (nameIn rp′) rp
+    pub names : NamesAllowed none b (runOf b runoff bd) (nameIn rp′)
+
+  abbrev pub Ran : Type 0
+  Ran = RanBy (overAnswer (overLimit runoff))
+
+  pub went-on : a .number ≡ 0 → Ran
+  unfolding monthSettled overAnswer
+  went-on n = go (overLimit runoff) (w .equation) (w .names)
+    where
+      go : (v : Option ℕ) → record { answer = a; board = bd′; report = rp′ } ≡ settledBy (overAnswer v) → NamesAllowed (overAnswer v) b (runOf b runoff bd) (nameIn rp′) → RanBy (overAnswer v)
+      go none e k = record { none-over = refl; board = ap (λ (y : Outcome). y .board) e; report = ap (λ (y : Outcome). y .report) e; names = k }
+      go (some i) e k = absurd (let z : a .number ≡ 8 = ap (λ (x : Outcome). (x .answer) .number) e in omega (arith, z, n))

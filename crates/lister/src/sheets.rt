@@ -1,0 +1,118 @@
+// One step of a listing: what the next part of the months file adds.
+ghost use mathlib.Core.Path.{_≡_};
+ghost use Prim.Native.Nat.{_+_, _*_, _≤_};
+ghost use lib.ListN.{length};
+ghost use Rattle.rules.specs.Basin.{rows};
+ghost use Rattle.records.specs.Records.{basinOf};
+ghost use Rattle.listing.specs.Run.{sheetOf, sheetBytes};
+ghost use Rattle.listing.specs.Putting.{mostText};
+ghost use Rattle.lister.specs.Lister.{CanStep, Stepped, Refused};
+use crate::Progress;
+use calls::answer::LISTS;
+use layout::bytes::le32;
+use layout::contents::PATTERNS;
+use layout::contents::RESERVOIRS;
+use layout::contents::RIGHTS;
+use layout::contents::STATIONS;
+use layout::contents::section;
+use listing::frame::put_refusal;
+use listing::month::put_month;
+use monthrun::month::go_on;
+
+// A sheet's bytes as its numbers.
+fn decode(bytes: &[u8], runoff: &mut [u32])
+    requires { ⌜ 4 * length (now runoff) ≤ length (now bytes) ⌝ }
+    ensures { λ _. ⌜ now (runoff .exit) ≡ sheetOf (length (now (runoff .entry))) (now (bytes .entry)) ⌝ }
+{
+    let n = runoff.len();
+    for row in 0..n {
+        runoff[row] = le32(bytes, 4 * row);
+    }
+}
+
+// A refusal is the last line of a listing.
+fn refuse(out: &mut [u8], from: Progress, number: u32, place: u32) -> Progress
+    requires { ⌜ from .at + mostText ≤ length (now out) ⌝ }
+    ensures { λ r. ⌜ Refused from number place (now (out .entry)) (now (out .exit)) r ⌝ }
+{
+    Progress {
+        months: from.months,
+        at: put_refusal(out, from.at, number as u64, place as u64),
+        more: false,
+    }
+}
+
+// A whole sheet: its month is run and its lines are put, or it is turned down. The numbers of the sheet go into the list runoff.
+fn list_sheet(
+    file: &[u8],
+    sheet: &[u8],
+    runoff: &mut [u32],
+    from: Progress,
+    board: &mut [u64],
+    report: &mut [u64],
+    out: &mut [u8],
+) -> Progress
+    requires { ⌜ CanStep (now file) from (now board) (now report) (now out) × (length (now sheet) ≡ sheetBytes (basinOf (now file))) × (length (now runoff) ≡ rows (basinOf (now file))) ⌝ }
+    ensures { λ r. ⌜ Stepped (now (file .entry)) (now (sheet .entry)) from (now (board .entry)) (now (out .entry)) (now (board .exit)) (now (out .exit)) r ⌝ }
+{
+    let stations = section(file, STATIONS);
+    let reservoirs = section(file, RESERVOIRS);
+    let patterns = section(file, PATTERNS);
+    let rights = section(file, RIGHTS);
+    decode(sheet, runoff);
+    let answer = go_on(
+        stations,
+        reservoirs,
+        patterns,
+        rights,
+        runoff,
+        board,
+        report,
+    );
+    if answer.number != 0 {
+        return refuse(out, from, answer.number, answer.place);
+    }
+    let at = put_month(
+        out,
+        from.at,
+        from.months,
+        stations,
+        reservoirs,
+        rights,
+        board,
+        report,
+    );
+    Progress {
+        months: from.months + 1,
+        at: at,
+        more: true,
+    }
+}
+
+// A part of the months file: nothing, where the file is at its end; a sheet; or too little for one, which is refusal 6.
+pub fn list_part(
+    file: &[u8],
+    part: &[u8],
+    from: Progress,
+    board: &mut [u64],
+    report: &mut [u64],
+    out: &mut [u8],
+) -> Progress
+    requires { ⌜ CanStep (now file) from (now board) (now report) (now out) ⌝ }
+    ensures { λ r. ⌜ Stepped (now (file .entry)) (now (part .entry)) from (now (board .entry)) (now (out .entry)) (now (board .exit)) (now (out .exit)) r ⌝ }
+{
+    let left = part.len();
+    if left == 0 {
+        return Progress {
+            months: from.months,
+            at: from.at,
+            more: false,
+        };
+    }
+    let n = section(file, STATIONS).len() / 8;
+    if left != 4 * n {
+        return refuse(out, from, LISTS, 0);
+    }
+    let mut runoff = [0u32; 64];
+    list_sheet(file, part, &mut runoff[..n], from, board, report, out)
+}

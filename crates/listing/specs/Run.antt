@@ -1,0 +1,115 @@
+-- The listing of two files (01, "One October, whole"): the bytes of a basin file and of a file of runoff sheets.
+use mathlib.Core.Bool.{Bool, true, false}
+use mathlib.Core.List.{List, [], _∷_, _++_}
+use mathlib.Core.Option.{Option, none, some}
+use mathlib.Core.Path.{_≡_}
+use Prim.Native.Nat.{ℕ, zero, suc, _*_}
+use lib.Dec.{eqb}
+use lib.ListN.{length, take, drop}
+use Rattle.general.specs.Tables.{tab}
+use Rattle.rules.specs.Basin.{Basin, rows}
+use Rattle.rules.specs.Tally.{Answer, overLimit, overAnswer}
+use Rattle.layout.specs.Bytes.{le32At}
+use Rattle.records.specs.Records.{basinOf}
+use Rattle.boards.specs.Report.{reportOf}
+use Rattle.boards.specs.Calls.{fileRefusal, orElse, unless, freshBoard, runOf, boardAfter, NamesAllowed}
+use Rattle.listing.specs.Listing.{monthText, refusalLine, header}
+
+-- ---- the file of months
+
+-- a sheet of runoff: a number of four bytes for each station
+unfoldable pub sheetOf : ℕ → List ℕ → List ℕ
+sheetOf n bytes = tab n (λ w. le32At bytes (4 * w))
+
+-- The file is read sheet by sheet, so a part of it is a sheet's bytes, or what is left of them at its end.
+abbrev pub sheetBytes : Basin → ℕ
+sheetBytes b = 4 * rows b
+
+-- 6 where a part is no whole sheet, 8 at the first row whose runoff is over its limit
+unfoldable pub partRefusal : Basin → List ℕ → Option Answer
+partRefusal b part = orElse (unless (eqb (length part) (sheetBytes b)) 6) (overAnswer (overLimit (sheetOf (rows b) part)))
+
+-- ---- what one part adds
+
+-- how a run stands: the months that it has listed, and its board
+pub record Standing : Type 0 where
+  pub months : ℕ
+  pub board : List ℕ
+
+-- the text that a part adds, how the run stands after it, and whether it goes on
+pub record Step : Type 0 where
+  pub text : List ℕ
+  pub standing : Standing
+  pub more : Bool
+
+-- A sheet that is turned down ends the run with its refusal. Any other is a month: its lines are added, and the run stands one month on,
+-- with the board that the month leaves. Of the stations that the rules let a report name, names gives the one named for each right.
+unfoldable pub sheetStep : Option Answer → Basin → Standing → List ℕ → (ℕ → ℕ) → Step
+sheetStep (some a) b s runoff names = record { text = refusalLine a; standing = s; more = false }
+sheetStep none b s runoff names =
+    let after : List ℕ = boardAfter b runoff (s .board) in
+    record {
+      text = monthText b (s .months) (reportOf b (runOf b runoff (s .board)) names []) after;
+      standing = record { months = suc (s .months); board = after };
+      more = true;
+    }
+
+-- Where nothing is left of the file the run ends, and nothing is added.
+unfoldable pub stepOf : Basin → Standing → List ℕ → (ℕ → ℕ) → Step
+stepOf b s [] names = record { text = []; standing = s; more = false }
+stepOf b s (x ∷ part) names = sheetStep (partRefusal b (x ∷ part)) b s (sheetOf (rows b) (x ∷ part)) names
+
+-- ---- part after part
+
+-- the step that the first part of what is left of the file makes
+unfoldable pub nextStep : Basin → Standing → List ℕ → (ℕ → ℕ) → Step
+nextStep b s rest names = stepOf b s (take (sheetBytes b) rest) names
+
+-- what the rest of a file adds; k is the most steps that are made, names 0 the stations named in the next month, names 1 in the one after it, ..
+unfoldable pub stepsText : ℕ → Basin → Standing → List ℕ → (ℕ → ℕ → ℕ) → List ℕ
+stepsText zero b s rest names = []
+stepsText (suc k) b s rest names =
+    let t : Step = nextStep b s rest (names 0) in
+    t .text ++ elim (t .more) [ true ↦ stepsText k b (t .standing) (drop (sheetBytes b) rest) (λ n. names (suc n)) | false ↦ [] ]
+
+-- ---- the listing
+
+-- A run begins with the fresh board, no month listed.
+unfoldable pub begin : Basin → Standing
+begin b = record { months = 0; board = freshBoard b }
+
+-- A sheet has at least four bytes, so no file has as many parts as bytes, and none is left out.
+unfoldable pub monthsText : Basin → List ℕ → (ℕ → ℕ → ℕ) → List ℕ
+monthsText b months names = stepsText (suc (length months)) b (begin b) months names
+
+-- A basin that is turned down ends the listing with its refusal.
+unfoldable pub afterHeader : Option Answer → Basin → List ℕ → (ℕ → ℕ → ℕ) → List ℕ
+afterHeader (some a) b months names = refusalLine a
+afterHeader none b months names = monthsText b months names
+
+-- The listing: the header, then the basin's refusal or its months. names gives for each month and right the station that is named, which the
+-- rules leave free among those of the grant (`NamesFit`).
+unfoldable pub listingOf : List ℕ → List ℕ → (ℕ → ℕ → ℕ) → List ℕ
+listingOf f months names = header ++ afterHeader (fileRefusal f) (basinOf f) months names
+
+-- ---- the stations that may be named
+
+-- in the month that a part makes, where it makes one
+abbrev pub PartNames : Basin → Standing → List ℕ → (ℕ → ℕ) → Type 0
+PartNames b s part names = NamesAllowed (partRefusal b part) b (runOf b (sheetOf (rows b) part) (s .board)) names
+
+-- what is asked only where a run goes on
+abbrev pub IfMore : Bool → Type 0 → Type 0
+IfMore true T = T
+IfMore false T = Unit {0}
+
+-- month by month
+abbrev pub NamesFit : ℕ → Basin → Standing → List ℕ → (ℕ → ℕ → ℕ) → Type 0
+NamesFit zero b s rest names = Unit {0}
+NamesFit (suc k) b s rest names =
+    PartNames b s (take (sheetBytes b) rest) (names 0)
+    × IfMore ((nextStep b s rest (names 0)) .more) (NamesFit k b ((nextStep b s rest (names 0)) .standing) (drop (sheetBytes b) rest) (λ n. names (suc n)))
+
+-- of the whole listing
+abbrev pub ListingNames : List ℕ → List ℕ → (ℕ → ℕ → ℕ) → Type 0
+ListingNames f months names = NamesFit (suc (length months)) (basinOf f) (begin (basinOf f)) months names
