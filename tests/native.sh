@@ -1,6 +1,6 @@
 #!/usr/bin/env bash
-# The static libraries as their callers see them: the C examples, then the comparison with the plain Rust engine, then
-# check and month of both timed in one run.
+# The static libraries as their callers see them: the C examples, then the numbers worked out by hand and the comparison with the plain Rust
+# engine, then check and month of both timed in one run.
 set -euo pipefail
 cd "$(dirname "$0")/.."
 
@@ -27,6 +27,20 @@ fi
 native() {
     cargo "$1" --release --offline --quiet --manifest-path tests/Cargo.toml --features native "${@:2}"
 }
-native test --test native --test native_month -- --nocapture
+native test --test by_hand --test october --test outside
+
+said=$(mktemp)
+trap 'rm -f "$said"' EXIT
+native test --test native --test native_month -- --nocapture | tee "$said"
+# Adds up what the tests counted.
+count() {
+    grep -oE "[0-9]+ $1" "$said" | awk '{ sum += $1 } END { print sum }'
+}
+total="$(count files:) files, $(count boards:) boards, $(count calls,) month calls, $(count refused:) of them refused"
+echo "the library answers as the plain engine: $total"
+if [ -z "${RIVER_CALLS:-}${RIVER_SEED:-}" ] && ! grep -qF "$total" tests/README.md; then
+    echo "tests/README.md tells other counts" >&2
+    exit 1
+fi
 native run --bin bench_check
 native run --bin bench_month

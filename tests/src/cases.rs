@@ -1,4 +1,4 @@
-//! Files for the program `rivercheck`: one or more for every rule of 01's
+//! Files for the program `rivercheck`: one or more for every rule of the basin
 //! file, legal files at the limits, and the samples, each with the number and
 //! place that the rules give it.
 

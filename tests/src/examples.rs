@@ -72,7 +72,8 @@ impl Right {
     }
 }
 
-/// 01, "One October, whole". What it leaves open: depth 0 in the other months.
+/// The October of 01 (One October, whole). What it leaves open: depth 0 in the other
+/// months.
 pub fn october() -> Basin {
     let pairs = [(0, 10), (2000, 20), (4000, 30), (6000, 40)];
     let mut lake = reservoir(0, 5000, 1000, pairs);

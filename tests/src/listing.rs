@@ -1,10 +1,11 @@
 //! What program `riverrun` does: it reads `months.bin` as it comes and prints a
-//! listing. "A file that can't be opened counts as empty", so the caller hands
-//! no bytes for one.
+//! listing (01, One October, whole). Of a file that is not there the caller hands no
+//! bytes.
 
 use crate::engine::board::{fresh, BOARD, DUES, MARKS, STORAGES};
-use crate::engine::check::{judge, Judged, Network};
+use crate::engine::check::{judge, Judged};
 use crate::engine::month::{month_on, NoWitness};
+use crate::engine::network::Network;
 use crate::engine::records::u32_at;
 use crate::engine::slip::Faithful;
 use std::io::{self, Read, Write};
@@ -21,7 +22,7 @@ pub fn listing(basin: &[u8], months: &[u8]) -> String {
 /// Prints the listing, a month at a time: however many months there are, only one
 /// is held. The file is judged once.
 pub fn run(basin: &[u8], mut months: impl Read, mut out: impl Write) -> io::Result<()> {
-    // "The header always comes first."
+    // Also before a refusal.
     out.write_all(HEADER)?;
     let mut network = Network::room();
     let judged = match judge(&Faithful, basin, &mut network) {
@@ -36,8 +37,8 @@ pub fn run(basin: &[u8], mut months: impl Read, mut out: impl Write) -> io::Resu
         if length == 0 {
             break;
         }
-        // "a last part too short is refusal 6"; the month call would say the
-        // same, but part of a number cannot be handed to it.
+        // The month call would turn down a part of a sheet with the same number, but
+        // part of a number cannot be handed to it.
         let answer = if length < part.len() { (6, 0) } else { run.month(&part) };
         if answer.0 != 0 {
             return refuse(out, answer);
@@ -49,7 +50,7 @@ pub fn run(basin: &[u8], mut months: impl Read, mut out: impl Write) -> io::Resu
     Ok(())
 }
 
-/// "A refusal prints `refused`, number, place, and ends the run."
+/// The last line of a listing that is refused.
 fn refuse(mut out: impl Write, (number, place): (u32, u32)) -> io::Result<()> {
     writeln!(out, "refused {number} {place}")
 }
@@ -98,14 +99,14 @@ impl<'a> Run<'a> {
     fn print(&self, number: u64, text: &mut Vec<u8>) {
         let sections = &self.basin.sections;
         let (rights, rows) = self.report.split_at(4 * sections.rights.len());
-        // "A right's line is the month, its permit and its four numbers of the report."
+        // A line to a right: the month, who it is, and what the report tells of it.
         for (right, four) in sections.rights.iter().zip(rights.as_chunks::<4>().0) {
             push_number(text, number, b' ');
             push_number(text, u32_at(right, 0) as u64, b' ');
             push_line(text, *four);
         }
-        // "The end line is month, `end`, outflow, evaporation, storage, pending,
-        // the last three over the whole basin."
+        // A line to the month: what leaves at the last row, and over the whole basin what
+        // evaporated, is stored and is on its way.
         let outflow = rows[2 * (sections.stations.len() - 1)];
         let evaporation = rows[2 * sections.stations.len()..].iter().sum();
         let storage = self.board[STORAGES..MARKS].iter().sum();

@@ -10,17 +10,29 @@ pub struct Run {
     pub name: &'static str,
     pub basin: Option<Vec<u8>>,
     pub months: Option<Vec<u8>>,
+    /// The refusal that ends it, as the rules give it.
+    pub refusal: Option<&'static str>,
 }
 
 impl Run {
+    fn refused(self, refusal: &'static str) -> Run {
+        Run { refusal: Some(refusal), ..self }
+    }
+
     /// The names of its two files.
     pub fn files(&self) -> [String; 2] {
         [format!("{}.basin.bin", self.name), format!("{}.months.bin", self.name)]
     }
 
-    /// "A file that can't be opened counts as empty."
+    /// The bytes of both; a file that is not there counts as empty.
+    pub fn bytes(&self) -> [&[u8]; 2] {
+        [&self.basin, &self.months].map(|file| file.as_deref().unwrap_or(&[]))
+    }
+
+    /// What the plain engine lists, for the file of expected listings.
     pub fn listing(&self) -> String {
-        listing(self.basin.as_deref().unwrap_or(&[]), self.months.as_deref().unwrap_or(&[]))
+        let [basin, months] = self.bytes();
+        listing(basin, months)
     }
 }
 
@@ -34,19 +46,25 @@ pub fn runs(provo: [Vec<u8>; 2]) -> Vec<Run> {
         run("provo", Some(provo_basin), Some(provo_months)),
         run("no_month", Some(file()), Some(Vec::new())),
         run("no_months_file", Some(file()), None),
-        run("no_basin_file", None, Some(sheet.clone())),
-        run("empty_basin", Some(Vec::new()), Some(sheet.clone())),
-        run("basin_with_a_byte_more", Some([file(), vec![0]].concat()), Some(sheet.clone())),
-        run("basin_longer_than_any", Some(vec![1; 70_000]), Some(sheet.clone())),
-        run("last_part_a_byte_short", Some(file()), Some([&sheet[..], &sheet[..11]].concat())),
-        run("last_part_one_byte", Some(file()), Some([&sheet[..], &sheet[..1]].concat())),
+        run("no_basin_file", None, Some(sheet.clone())).refused("refused 1 0"),
+        run("empty_basin", Some(Vec::new()), Some(sheet.clone())).refused("refused 1 0"),
+        run("basin_with_a_byte_more", Some([file(), vec![0]].concat()), Some(sheet.clone()))
+            .refused("refused 1 0"),
+        run("basin_longer_than_any", Some(vec![1; 70_000]), Some(sheet.clone()))
+            .refused("refused 1 0"),
+        run("last_part_a_byte_short", Some(file()), Some([&sheet[..], &sheet[..11]].concat()))
+            .refused("refused 6 0"),
+        run("last_part_one_byte", Some(file()), Some([&sheet[..], &sheet[..1]].concat()))
+            .refused("refused 6 0"),
         run("runoff_at_its_limit", Some(file()), Some(months_bytes(&[1_000_000_000; 3]))),
         run(
             "runoff_over_its_limit",
             Some(file()),
             Some([sheet.clone(), months_bytes(&[5, 1_000_000_001, u32::MAX])].concat()),
-        ),
-        run("right_at_fault", Some(unpointed_below_100().encode()), Some(sheet)),
+        )
+        .refused("refused 8 1"),
+        run("right_at_fault", Some(unpointed_below_100().encode()), Some(sheet))
+            .refused("refused 5 3"),
     ];
     for (name, seed, water) in [
         ("years_of_tight_water", 11, Water::Tight),
@@ -59,7 +77,7 @@ pub fn runs(provo: [Vec<u8>; 2]) -> Vec<Run> {
 }
 
 fn run(name: &'static str, basin: Option<Vec<u8>>, months: Option<Vec<u8>>) -> Run {
-    Run { name, basin, months }
+    Run { name, basin, months, refusal: None }
 }
 
 /// A right without return points that would return part of its grant.

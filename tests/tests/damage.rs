@@ -42,6 +42,7 @@ fn each_broken_rule_is_refused_at_its_place() {
 #[test]
 fn each_extreme_legal_value_is_accepted() {
     let rng = &mut Rng::new(2);
+    let mut times = 0;
     for (index, base) in bases().iter().enumerate() {
         for &(name, edit) in LEGAL {
             let mut basin = base.clone();
@@ -49,18 +50,23 @@ fn each_extreme_legal_value_is_accepted() {
             assert!(applied || index > 0, "{name} finds nothing in the rich base");
             if applied {
                 assert_eq!(check(&basin.encode()), (0, 0), "{name}, base {index}");
+                times += 1;
             }
         }
     }
+    println!("{} legal values at their limits, {times} files", LEGAL.len());
 }
 
 #[test]
 fn each_file_not_packed_is_refused() {
+    let mut times = 0;
     for base in bases().iter().take(60) {
         for (name, file) in not_packed(base) {
             assert_eq!(check(&file), (1, 0), "{name}");
+            times += 1;
         }
     }
+    println!("{times} files not packed");
 }
 
 /// Order bytes at random, in and out of range, against the rule told row by row:
@@ -87,10 +93,11 @@ fn random_orders_are_refused_at_the_first_row() {
         assert_eq!(check(&basin.encode()), expected, "{list:?}");
         accepted += fault.is_none() as usize;
     }
+    println!("20000 lists of orders, {accepted} of them accepted");
     assert!((1000..10_000).contains(&accepted), "{accepted}");
 }
 
-/// Two faults in different sections: "The lowest number that applies is given."
+/// Two faults in different sections: of their numbers the lower is given.
 #[test]
 fn the_lowest_number_is_given() {
     let rng = &mut Rng::new(3);
@@ -121,6 +128,7 @@ fn the_lowest_number_is_given() {
             }
         }
     }
+    println!("{pairs} pairs of damages in two sections");
     assert!(pairs > 3000, "{pairs}");
 }
 
@@ -187,7 +195,7 @@ fn each_extreme_board_is_possible() {
             let answer = month(&river.file, &river.runoff(rng), &mut board, &mut report);
             assert_eq!(answer.0, 0, "{name}");
             assert_eq!(board[NEXT_MONTH], (m + 1) % 12);
-            // "m goes on", and the board stays possible for the next call.
+            // The board it leaves is one for the next call.
             assert_eq!(stock(&river.file, &board)[0], 0, "{name}");
         }
     }
@@ -281,6 +289,7 @@ fn random_damage_is_answered() {
             numbers[number as usize] += 1;
         }
     }
-    println!("random damages by number: {numbers:?}");
+    let files: usize = numbers.iter().sum();
+    println!("{files} files damaged at random, by number 0 to 5 {numbers:?}");
     assert!(numbers.iter().all(|&times| times > 200), "{numbers:?}");
 }

@@ -51,7 +51,7 @@ fn straight_rivers_have_one_path() {
 #[test]
 fn sheets_hold_as_much_water_as_they_should() {
     let (basin, rng) = (largest(), &mut Rng::new(3));
-    let asked: u64 =
+    let demand: u64 =
         basin.rights.iter().map(|r| r.amounts.map(u64::from).iter().sum::<u64>()).sum();
     for tenths in [3, 15, 100] {
         let months = 120;
@@ -59,7 +59,7 @@ fn sheets_hold_as_much_water_as_they_should() {
         assert_eq!(numbers.len(), months * basin.stations.len());
         assert!(numbers.iter().all(|&number| number <= 1_000_000_000));
         // Half of the most at the middle.
-        let middle = asked as f64 / 12.0 * tenths as f64 / 10.0 / 2.0;
+        let middle = demand as f64 / 12.0 * tenths as f64 / 10.0 / 2.0;
         let water = numbers.iter().map(|&number| number as f64).sum::<f64>() / months as f64;
         assert!((0.95..1.05).contains(&(water / middle)), "{tenths}: {water} for {middle}");
     }

@@ -1,6 +1,7 @@
 //! The static libraries against the plain engine, over valid files, every
 //! damage and random damage: number and place of the check; answer and every
-//! number of the board for fresh; all four numbers of stock. Feature `native`.
+//! number of the board for fresh; all four numbers of stock. Where the rules give
+//! the answer of a damage, it is asked of the library too. Feature `native`.
 
 use river_tests::damage::*;
 use river_tests::engine::board::BOARD;
@@ -13,11 +14,17 @@ use river_tests::generate::{any_river, largest, Rng};
 struct Compared([usize; 6]);
 
 impl Compared {
-    fn compare(&mut self, file: &[u8], what: &str) {
-        let expected = check(file);
-        assert_eq!(ffi::check(file), expected, "{what}");
-        assert_eq!(ffi::check_number(file), expected.0, "{what}");
-        self.0[expected.0 as usize] += 1;
+    fn compare(&mut self, file: &[u8], what: &str) -> (u32, u32) {
+        let answer = ffi::check(file);
+        assert_eq!(answer, check(file), "{what}");
+        assert_eq!(ffi::check_number(file), answer.0, "{what}");
+        self.0[answer.0 as usize] += 1;
+        answer
+    }
+
+    /// native.sh adds up the counts of these lines.
+    fn print(&self, what: &str) {
+        println!("{} files: {what}, by number 0 to 5 {:?}", self.0.iter().sum::<usize>(), self.0);
     }
 }
 
@@ -28,6 +35,7 @@ fn valid_files() {
     for seed in 0..2000 {
         compared.compare(&any_river(&mut Rng::new(seed)).file, &format!("seed {seed}"));
     }
+    compared.print("valid");
     assert_eq!(compared.0, [2001, 0, 0, 0, 0, 0]);
 }
 
@@ -37,23 +45,24 @@ fn every_damage_and_every_extreme_value() {
     let mut compared = Compared::default();
     let random = (0..100).map(|seed| any_river(&mut Rng::new(seed)).basin);
     for base in std::iter::once(rich_base()).chain(random) {
-        for &(name, _, edit) in BROKEN {
+        for &(name, number, edit) in BROKEN {
             let mut basin = base.clone();
-            if edit(&mut basin, rng).is_some() {
-                compared.compare(&basin.encode(), name);
+            if let Some(place) = edit(&mut basin, rng) {
+                let answer = compared.compare(&basin.encode(), name);
+                assert_eq!(answer, (number, place as u32), "{name}");
             }
         }
         for &(name, edit) in LEGAL {
             let mut basin = base.clone();
             if edit(&mut basin, rng).is_some() {
-                compared.compare(&basin.encode(), name);
+                assert_eq!(compared.compare(&basin.encode(), name), (0, 0), "{name}");
             }
         }
         for (name, file) in not_packed(&base) {
-            compared.compare(&file, &name);
+            assert_eq!(compared.compare(&file, &name), (1, 0), "{name}");
         }
     }
-    println!("named damages by number: {:?}", compared.0);
+    compared.print("every damage and every legal value at its limit");
     assert!(compared.0.iter().all(|&times| times > 100), "{:?}", compared.0);
 }
 
@@ -69,6 +78,7 @@ fn pairs_of_damages() {
             compared.compare(&basin.encode(), &format!("{name}, after {other}"));
         }
     }
+    compared.print("pairs of damages");
     assert!(compared.0[2..].iter().all(|&times| times > 100), "{:?}", compared.0);
 }
 
@@ -83,48 +93,53 @@ fn random_damages() {
             compared.compare(&file, &format!("seed {seed}, damage {time}"));
         }
     }
-    println!("random damages by number: {:?}", compared.0);
+    compared.print("damaged at random");
     assert!(compared.0.iter().all(|&times| times > 200), "{:?}", compared.0);
     assert!(compared.0[1..].iter().sum::<usize>() >= 5000);
 }
 
-/// Fresh and stock on a file and a board, by both engines.
-fn compare_board(file: &[u8], board: &[u64], what: &str) -> u64 {
-    let expected = stock(file, board);
-    assert_eq!(ffi::stock(file, board), expected, "stock, {what}");
+/// Fresh and stock on a file and a board, by both engines; answers stock's number.
+fn compare_board(file: &[u8], board: &[u64], what: &str) -> usize {
+    let told = ffi::stock(file, board);
+    assert_eq!(told, stock(file, board), "stock, {what}");
     let (mut plain, mut native) = (board.to_vec(), board.to_vec());
     let answer = fresh(file, &mut plain);
     assert_eq!(ffi::fresh(file, &mut native), answer, "fresh, {what}");
     assert_eq!(native, plain, "fresh board, {what}");
-    expected[0]
+    told[0] as usize
 }
 
 #[test]
 fn boards_possible_and_impossible() {
     let rng = &mut Rng::new(24);
     let mut by_number = [0; 8];
+    // Where the rules give the number it is given here too.
+    let mut compare = |file: &[u8], board: &[u64], what: &str, wanted: Option<usize>| {
+        let number = compare_board(file, board, what);
+        assert!(wanted.is_none_or(|wanted| number == wanted), "{what}: {number}");
+        by_number[number] += 1;
+    };
     for seed in 0..300 {
         let river = any_river(&mut Rng::new(seed));
         let board = river.possible_board(rng);
-        by_number[compare_board(&river.file, &board, "possible") as usize] += 1;
+        compare(&river.file, &board, "possible", Some(0));
         for &(name, edit) in POSSIBLE {
             let mut board = board.clone();
             edit(&river.basin, &mut board);
-            by_number[compare_board(&river.file, &board, name) as usize] += 1;
+            compare(&river.file, &board, name, Some(0));
         }
         for &(name, edit) in IMPOSSIBLE {
             let mut board = board.clone();
             if impossible_board(edit, &river.basin, &mut board, rng).is_some() {
-                by_number[compare_board(&river.file, &board, name) as usize] += 1;
+                compare(&river.file, &board, name, Some(7));
             }
         }
         for length in [0, 1, BOARD - 1, BOARD + 1] {
-            let board = vec![5; length];
-            by_number[compare_board(&river.file, &board, "length") as usize] += 1;
+            compare(&river.file, &vec![5; length], "length", Some(6));
         }
-        let damaged = random_damage(rng, &river.file);
-        by_number[compare_board(&damaged, &board, "damaged") as usize] += 1;
+        compare(&random_damage(rng, &river.file), &board, "damaged", None);
     }
-    println!("boards by number: {by_number:?}");
+    let boards: usize = by_number.iter().sum();
+    println!("{boards} boards: fresh and stock, by number 0 to 7 {by_number:?}");
     assert!([0, 6, 7].iter().all(|&number: &usize| by_number[number] > 500), "{by_number:?}");
 }

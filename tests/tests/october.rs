@@ -1,10 +1,13 @@
-//! 01's "One October, whole", from its words and from the sample file.
+//! The October that 01 works out (One October, whole), from its words and from the
+//! sample file; board and report are asked of every engine.
 
-use river_tests::engine::board::BOARD;
+use river_tests::calls::by_each;
+use river_tests::engine::board::{due, BOARD};
+use river_tests::engine::records::Basin;
 use river_tests::engine::tally::{self, Tally};
-use river_tests::engine::{check, fresh, month, month_allowed};
-use river_tests::examples::{months_bytes, october, OCTOBER_RUNOFF};
+use river_tests::examples::{direct, months_bytes, october, pattern, stations, OCTOBER_RUNOFF};
 use river_tests::listing::listing;
+use river_tests::run::Run;
 
 const PRINTED: &str = "\
 MONTH PERMIT RIVER STORE WHY AT
@@ -33,32 +36,37 @@ fn sample_file_is_the_october_of_the_words() {
 #[test]
 fn board_and_report_by_hand() {
     let file = october().encode();
-    assert_eq!(check(&file), (0, 0));
-    let mut board = vec![7; BOARD];
-    assert_eq!(fresh(&file, &mut board), (0, 0));
     let mut start = vec![0; BOARD];
     start[1] = 1000;
-    assert_eq!(board, start);
-    let mut report = vec![99; 4 * 5 + 2 * 3 + 1 + 2];
-    let (answer, allowed) = month_allowed(&file, &OCTOBER_RUNOFF, &mut board, &mut report);
-    assert_eq!(answer, (0, 2));
-    // Right 13 can name 300 alone: before its grant open water was 2000, 1499 and,
-    // lowest, 701 there. Right 15 is called by 13, at its own row.
-    assert_eq!(allowed, [vec![], vec![], vec![300], vec![], vec![100]]);
     // Right 12 returns 1201 - 396 = 805: 402 now, 242 and 161 later.
     // Flow at row 0: 2000 - 701 stored + 600 released; row 1: 2700 - 1201 - 701;
     // row 2: 3000 - 1500 - 1201 + 402 - 701 = 0.
-    let mut expected = vec![1500, 0, 0, 0, 1201, 0, 0, 0, 701, 0, 2, 300];
-    expected.extend([0, 600, 0, 0, 0, 0, 1, 100]);
-    expected.extend([1899, 1299, 798, 798, 0, 0, 50, 99, 99]);
-    assert_eq!(report, expected);
+    let mut told = vec![1500, 0, 0, 0, 1201, 0, 0, 0, 701, 0, 2, 300];
+    told.extend([0, 600, 0, 0, 0, 0, 1, 100]);
+    told.extend([1899, 1299, 798, 798, 0, 0, 50, 99, 99]);
     let mut after = vec![0; BOARD];
     after[0] = 1;
     after[1] = 1000 + 701 - 600 - 50;
     after[10 + 2] = 701;
     after[266 + 11 * 2] = 242;
     after[266 + 11 * 2 + 1] = 161;
-    assert_eq!(board, after);
+    by_each(|calls| {
+        assert_eq!((calls.check)(&file), (0, 0));
+        let mut board = vec![7; BOARD];
+        assert_eq!((calls.fresh)(&file, &mut board), (0, 0));
+        assert_eq!(board, start);
+        let mut report = vec![99; 4 * 5 + 2 * 3 + 1 + 2];
+        let (answer, allowed) = (calls.month)(&file, &OCTOBER_RUNOFF, &mut board, &mut report);
+        assert_eq!(answer, (0, 2));
+        // Right 13 can name 300 alone: before its grant the available flow was 2000,
+        // 1499 and, lowest, 701 there. Right 15 is called by 13, at its own row.
+        if let Some(allowed) = allowed {
+            assert_eq!(allowed, [vec![], vec![], vec![300], vec![], vec![100]]);
+        }
+        assert_eq!(report, told);
+        assert_eq!(board, after);
+        assert_eq!((calls.stock)(&file, &board), [0, 0, 1051, 403]);
+    });
 }
 
 #[test]
@@ -93,16 +101,55 @@ fn marked_list() {
     assert_eq!(tally::path(&october().stations, 0), [0, 1, 2]);
 }
 
+/// The same list where a month call shows it.
 #[test]
-fn months_word_zero_asks_nothing() {
+fn marked_list_in_months() {
+    // 805, 1 and 0 by the pattern: row 1 has the first share at once, the rest is due.
+    let river = |amount, efficiency| Basin {
+        stations: stations(&[(100, 1), (200, 1)]),
+        patterns: vec![pattern(&[50, 30, 20])],
+        rights: vec![direct(1, 19000101, 0, amount).returning(efficiency, 0, &[(1, 100)])],
+        ..Basin::default()
+    };
+    // The last: of 1 at 33 percent nothing is consumed, so all of it returns.
+    let splits =
+        [(805, 0, [402, 242, 161]), (1, 0, [0, 0, 1]), (0, 0, [0, 0, 0]), (1, 33, [0, 0, 1])];
+    // A unit of depth takes as many units as there are acres.
+    let lake = |start| {
+        let mut basin = october();
+        basin.rights.clear();
+        basin.reservoirs[0].capacity = 8000;
+        basin.reservoirs[0].start = start;
+        basin.reservoirs[0].depths[0] = 1;
+        basin
+    };
+    by_each(|calls| {
+        for (amount, efficiency, [now, next, after]) in splits {
+            let mut run = Run::of(calls, &river(amount, efficiency));
+            assert_eq!(run.month(&[1000, 0]), 0);
+            assert_eq!(run.flow(), [1000 - amount as u64, 1000 - amount as u64 + now]);
+            assert_eq!((run.board[due(1, 1)], run.board[due(1, 2)]), (next, after));
+            assert_eq!(run.stock(), [0, 0, 0, next + after]);
+        }
+        for (storage, acres) in [(1999, 10), (2000, 20), (7500, 40)] {
+            let mut run = Run::of(calls, &lake(storage));
+            run.month(&OCTOBER_RUNOFF);
+            assert_eq!(run.evaporation(), [acres]);
+            // The row below station 100 is 200, and 300 below that.
+            assert_eq!(run.flow(), [2000, 2700, 3000]);
+        }
+    });
+}
+
+#[test]
+fn months_word_zero_means_no_demand() {
     let mut basin = october();
     basin.rights[0].months = 0;
-    let mut board = vec![0; BOARD];
-    let mut report = vec![0; 27];
-    let file = basin.encode();
-    fresh(&file, &mut board);
-    month(&file, &OCTOBER_RUNOFF, &mut board, &mut report);
-    assert_eq!(report[..4], [0, 0, 0, 0]);
+    by_each(|calls| {
+        let mut run = Run::of(calls, &basin);
+        run.month(&OCTOBER_RUNOFF);
+        assert_eq!(run.grants()[0], [0, 0, 0, 0]);
+    });
 }
 
 mod program {

@@ -1,5 +1,5 @@
 //! Long lists of months against the tally. The tally asserts the water sum, the
-//! reservoirs' accounts and the bounds of open water in every call; here the
+//! reservoirs' accounts and the bounds of available flow in every call; here the
 //! engine's answer, board and report are compared with what the tally keeps.
 
 use river_tests::engine::board::*;

@@ -16,7 +16,7 @@ const SHORTEST_ROUND_NS: f64 = 100_000.0;
 /// a processor cannot learn a small basin's course by heart.
 const MONTHS: usize = 60;
 
-/// How much water there can be, in tenths of what is asked. A tight river is to leave part of
+/// How much water there can be, in tenths of the demand. A tight river is to leave part of
 /// the rights short, not all: in a small basin one short right soon calls all others.
 const TIGHT: u64 = 3;
 const TIGHT_IF_SMALL: u64 = 15;

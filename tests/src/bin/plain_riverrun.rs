@@ -11,7 +11,7 @@ const LONGEST: u64 = 32 + 64 * 8 + 8 * 68 + 16 * 12 + 256 * 76;
 fn main() -> io::Result<()> {
     let basin = read_basin()?;
     let out = io::stdout().lock();
-    // "A file that can't be opened counts as empty".
+    // Without such a file there is no month to list.
     match File::open("months.bin") {
         Ok(months) => run(&basin, BufReader::new(months), out),
         Err(_) => run(&basin, io::empty(), out),

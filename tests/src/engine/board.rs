@@ -1,10 +1,11 @@
 //! The board: its places, which boards are possible, fresh and stock.
 
-use super::check::{judge, Judged, Network, Refusal};
+use super::check::{judge, Judged, Refusal};
+use super::network::Network;
 use super::records::*;
 use super::slip::{Slip, Telling};
 
-/// "The board is 970 numbers of 64 bits".
+/// Numbers on a board (01, The board and one month).
 pub const BOARD: usize = 970;
 pub const NEXT_MONTH: usize = 0;
 pub const STORAGES: usize = 1;
@@ -14,7 +15,7 @@ pub const DUES: usize = 266;
 /// Dues kept per row, k = 1 to 11.
 pub const LAGS: usize = 11;
 
-/// Place of "the return due there k months after the last finished month".
+/// Place of what returns at a row k months after the last month that was run.
 pub const fn due(row: usize, k: usize) -> usize {
     DUES + LAGS * row + (k - 1)
 }
@@ -25,15 +26,13 @@ pub const fn most_due(k: usize) -> u64 {
     (12 - k as u64) * 256_000_000_000
 }
 
-/// A list whose length is wrong: "6, 0".
+/// A list of a wrong length.
 pub const WRONG_LENGTH: Refusal = Refusal { number: 6, place: 0 };
-/// "board not possible | 7 | 7, 0".
+/// A board that no run of months can leave.
 pub const NOT_POSSIBLE: Refusal = Refusal { number: 7, place: 0 };
 
-/// "A board is possible if m < 12, storages are at most capacity, marks name
-/// reservoirs that exist, taken is at most the yearly limit, due at k is at most
-/// (12 − k) × 256,000,000,000, and all places without a reservoir, right or row
-/// are 0."
+/// Whether a board is possible: every number is within its bound, and nothing stands
+/// where the basin has no reservoir, right or row (01, The board and one month).
 pub fn possible<T: Telling>(telling: &T, basin: &Judged, board: &[u64]) -> bool {
     let Judged { sections, .. } = basin;
     let rights = sections.rights.len();
@@ -86,7 +85,8 @@ fn dues_fit<T: Telling>(telling: &T, dues: &[u64]) -> bool {
     })
 }
 
-/// "Fresh: starting storages, all else 0."
+/// The board on which a basin begins: the reservoirs hold what the file says, and
+/// nothing is marked, taken or due.
 pub fn fresh<T: Telling>(telling: &T, file: &[u8], board: &mut [u64]) -> (u32, u32) {
     let mut network = Network::room();
     let basin = match judge(telling, file, &mut network) {
@@ -107,9 +107,8 @@ pub fn fresh<T: Telling>(telling: &T, file: &[u8], board: &mut [u64]) -> (u32, u
     (0, 0)
 }
 
-/// "Stock answers four numbers: number and place as in the table (0, 0 if
-/// accepted), then the sum of storages and the sum of dues of a board; refused,
-/// both sums are 0."
+/// Number and place, then what the reservoirs hold and what is due, both summed; a
+/// refused call sums nothing (01, Stock, and the C caller).
 pub fn stock<T: Telling>(telling: &T, file: &[u8], board: &[u64]) -> [u64; 4] {
     let refused = |refusal: Refusal| [refusal.number as u64, refusal.place as u64, 0, 0];
     let mut network = Network::room();

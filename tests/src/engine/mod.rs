@@ -1,15 +1,24 @@
-//! The engine: the calls of 01 on bytes and lists of numbers.
+//! The engine: the calls of the rules on bytes and lists of numbers.
+//!
+//! "01" in these files is the rules document of the product, the rules of
+//! allocation; where it is cited, the heading follows. "002" is the manual of WIRSOS,
+//! the program whose method the rules take up and, in places, leave. Two words differ
+//! from 01's, as the field has its own: the *available flow* at a row is what 01 calls
+//! open water, and the *demand* of a right is what 01 calls its ask.
 
 pub mod board;
 pub mod check;
 pub mod month;
+pub mod network;
 pub mod records;
+pub mod sections;
 pub mod slip;
 pub mod split;
 pub mod tally;
 
-use check::{judge, Network};
+use check::judge;
 use month::{AllowedRows, NoWitness};
+use network::Network;
 use records::{u32_at, RIGHT_BYTES, STATION_BYTES};
 use slip::Faithful;
 

@@ -1,4 +1,4 @@
-//! One month: refusals 6 to 8, then steps 1 to 5.
+//! One month: refusals 6 to 8, then steps 1 to 5 (01, The board and one month).
 //!
 //! The month works on the caller's bytes: every record is decoded where the
 //! rules of the file judge it, and once more where its turn comes. Nothing is
@@ -6,13 +6,19 @@
 //! off at 0.
 
 use super::board::*;
-use super::check::{judge, Judged, Network, Refusal};
+use super::check::{judge, Judged};
+use super::network::Network;
 use super::records::*;
 use super::slip::{Slip, Telling};
-use super::split::{area, consumption, Split};
+use super::split::area;
 
-/// Is told, for each right, the rows whose station may be named. "In 1 and 2 any
-/// such row may be named; this alone is free."
+mod reasons;
+mod refusals;
+mod returns;
+mod turn;
+
+/// Is told, for each right, the rows whose station may be named. Under reasons 1 and 2
+/// there may be several, and the rules leave the choice.
 pub trait Witness {
     fn may_name(&mut self, _right: usize, _rows: u64) {}
 }
@@ -57,7 +63,7 @@ pub fn month_on<T: Telling, W: Witness>(
     board: &mut [u64],
     report: &mut [u64],
 ) -> (u32, u32) {
-    if let Err(refusal) = judge_call(telling, basin, runoff, board, report) {
+    if let Err(refusal) = refusals::judge_call(telling, basin, runoff, board, report) {
         return refusal.answer();
     }
     let mut month = Month::begin(telling, basin, board);
@@ -84,54 +90,6 @@ pub fn month_on<T: Telling, W: Witness>(
     }
     (0, shorts)
 }
-
-// ---- refusals 6, 7, 8 ----
-
-fn judge_call<T: Telling>(
-    telling: &T,
-    basin: &Judged,
-    runoff: &[u32],
-    board: &[u64],
-    report: &[u64],
-) -> Result<(), Refusal> {
-    let rows = basin.sections.stations.len();
-    let report_length = basin.sections.report_length();
-    // "runoff list not one per station, board not 970, report too short"
-    let runoff_fits =
-        runoff.len() == rows || (telling.slips(Slip::RunoffAtLeast) && runoff.len() > rows);
-    let board_fits =
-        board.len() == BOARD || (telling.slips(Slip::BoardAtLeast) && board.len() > BOARD);
-    let report_fits = report.len() >= report_length
-        && !(telling.slips(Slip::ReportExact) && report.len() > report_length);
-    if !runoff_fits || !board_fits || !report_fits {
-        return Err(WRONG_LENGTH);
-    }
-    if telling.slips(Slip::RunoffBeforeBoard) {
-        judge_runoff(telling, runoff)?;
-    }
-    if !possible(telling, basin, board) {
-        return Err(NOT_POSSIBLE);
-    }
-    judge_runoff(telling, runoff)
-}
-
-/// "one runoff number of 32 bits per station, at most 1,000,000,000";
-/// "runoff over its limit | 8 | 8, first row".
-fn judge_runoff<T: Telling>(telling: &T, runoff: &[u32]) -> Result<(), Refusal> {
-    let most = 1_000_000_000 - telling.slips(Slip::RunoffLimitTight) as u32;
-    let over = |&number: &u32| number > most;
-    let row = if telling.slips(Slip::RunoffLastAtFault) {
-        runoff.iter().rposition(over)
-    } else {
-        runoff.iter().position(over)
-    };
-    match row {
-        Some(row) => Err(Refusal { number: 8, place: row as u32 }),
-        None => Ok(()),
-    }
-}
-
-// ---- steps 1 to 5 ----
 
 /// The rows of a set, first row of the path first.
 #[inline(always)]
@@ -164,7 +122,7 @@ struct Month<'a, T> {
     board: &'a mut [u64],
     m: usize,
     flow: [i64; MOST_STATIONS],
-    /// 01's open water: what is still open to later rights.
+    /// What is left to later rights.
     available: [i64; MOST_STATIONS],
     storage: [i64; MOST_RESERVOIRS],
     storage_before: [i64; MOST_RESERVOIRS],
@@ -217,7 +175,7 @@ impl<'a, T: Telling> Month<'a, T> {
         u32_at(&self.basin.sections.reservoirs[reservoir], 4) as i64
     }
 
-    /// Step 1: "At m = 0, taken and marks become 0."
+    /// Step 1: a year begins in October, with nothing stored and no reservoir filled in it.
     fn clear_in_october(&mut self) {
         if self.m != 0 {
             return;
@@ -231,8 +189,8 @@ impl<'a, T: Telling> Month<'a, T> {
         }
     }
 
-    /// Step 2: "Flow at a row is runoff plus returns due at k = 1, summed over
-    /// all rows whose path holds it. Open water starts equal to flow."
+    /// Step 2: runoff and what returns in this month gather downstream, and all of it
+    /// is available.
     fn start_flow(&mut self, runoff: &[u32]) {
         for (row, &runoff) in runoff.iter().enumerate().take(self.rows()) {
             let due_now =
@@ -252,8 +210,8 @@ impl<'a, T: Telling> Month<'a, T> {
         }
     }
 
-    /// Step 2: "Then the dues move one month nearer, k to k − 1; those used are
-    /// gone and k = 11 is 0."
+    /// Step 2: what is due comes a month nearer. What was due now has been used, and
+    /// nothing is due as late as it can be.
     fn move_dues(&mut self) {
         if self.slips(Slip::DuesNotMoved) {
             return;
@@ -267,337 +225,7 @@ impl<'a, T: Telling> Month<'a, T> {
         }
     }
 
-    /// "Its ask is its amount if bit m is set, else 0; for kind 4 it is the least
-    /// of that, limit left, capacity left, and is 0 under a filled mark."
-    fn demand(&self, place: usize, right: &Right) -> i64 {
-        let amount = self.scheduled(right);
-        if right.kind != STORAGE {
-            return amount;
-        }
-        let reservoir = right.reservoir as usize;
-        let marks = if self.slips(Slip::MarkNextMonth) { self.marks_before } else { self.marks };
-        if marks >> reservoir & 1 == 1 && !self.slips(Slip::MarkIgnored) {
-            return 0;
-        }
-        let mut limit_left = right.limit as i64 - self.board[TAKEN + place] as i64;
-        if self.slips(Slip::LimitLeftIgnored) {
-            limit_left = i64::MAX;
-        }
-        let storage = if self.slips(Slip::CapacityAtMonthsBeginning) {
-            self.storage_before[reservoir]
-        } else {
-            self.storage[reservoir]
-        };
-        amount.min(limit_left).min(self.capacity(reservoir) - storage)
-    }
-
-    fn scheduled(&self, right: &Right) -> i64 {
-        let bit = if self.slips(Slip::MonthBitReversed) { MONTHS - 1 - self.m } else { self.m };
-        let all = self.slips(Slip::MonthsWordZeroMeansAll) && right.months == 0;
-        if right.months >> bit & 1 == 1 || all {
-            right.amounts[self.m] as i64
-        } else {
-            0
-        }
-    }
-
-    /// Step 3 for one right: its grant, reason and controlling station.
-    fn serve<W: Witness>(
-        &mut self,
-        place: usize,
-        right: &Right,
-        witness: &mut W,
-    ) -> (Grant, u64, u64) {
-        let row = right.row as usize;
-        let path = self.basin.network.path[row];
-        let demand = self.demand(place, right);
-        let callers = self.callers(right, path);
-        let called = callers != 0;
-        let looks_at = self.looks_at(right, path);
-        let lowest = self.lowest_available(looks_at);
-        // "River part: 0 if called, else the lesser of ask and the lowest open
-        // water on the path."
-        let from_river =
-            if called { 0 } else { (demand - self.stored_first(right, demand)).min(lowest) };
-        let low_rows = if from_river < demand { self.rows_at(looks_at, lowest) } else { 0 };
-        self.take_from_river(right, path, from_river);
-
-        let from_storage = match right.kind {
-            STORAGE => {
-                self.store(place, right, from_river);
-                0
-            }
-            PROJECT => self.release(right, demand - from_river, called),
-            _ => 0,
-        };
-        let grant = Grant { from_river, from_storage };
-        if right.kind == DIRECT || right.kind == PROJECT {
-            self.return_flow(right, &grant);
-        }
-        let short = self.is_short(right, &grant, demand);
-        let (reason, rows) = self.reason(right, short, callers, low_rows);
-        witness.may_name(place, rows);
-        self.served_rows |= ((demand > 0) as u64) << row;
-        if short {
-            self.short_rows |= self.rows_that_call(right);
-        }
-        self.shorts += if self.slips(Slip::ShortsCountCalled) { called } else { short } as u32;
-        (grant, reason, self.named(right, reason, rows))
-    }
-
-    /// Rows of the rights that call this one: "called if a right already short
-    /// this month has its row on this right's path"; "Kind 3 is never called."
-    fn callers(&self, right: &Right, path: u64) -> u64 {
-        if (right.kind == INSTREAM && !self.slips(Slip::InstreamCalled))
-            || self.slips(Slip::CalledIgnored)
-        {
-            return 0;
-        }
-        if self.slips(Slip::CalledBeforeShort) {
-            return self.served_rows & path;
-        }
-        if self.slips(Slip::CalledByOwnRowNot) {
-            return self.short_rows & path & !(1 << right.row);
-        }
-        if self.slips(Slip::CalledByUpstream) {
-            let upstream = |row: &usize| self.basin.network.on_path(right.row as usize, *row);
-            return rows_of(self.short_rows).filter(upstream).fold(0, |set, row| set | 1 << row);
-        }
-        self.short_rows & path
-    }
-
-    /// The rows whose open water holds a right: its path; for kind 3 "open water at
-    /// its row".
-    fn looks_at(&self, right: &Right, path: u64) -> u64 {
-        let own_row_only = right.kind == INSTREAM && !self.slips(Slip::InstreamLooksDownPath);
-        if own_row_only || self.slips(Slip::OwnRowOnly) {
-            1 << right.row
-        } else {
-            path
-        }
-    }
-
-    /// Only for the slip: the river comes first, so nothing is kept for storage.
-    fn stored_first(&self, right: &Right, demand: i64) -> i64 {
-        if right.kind == PROJECT && self.slips(Slip::StorageFirst) {
-            demand.min(self.storage[right.reservoir as usize])
-        } else {
-            0
-        }
-    }
-
-    fn rows_that_call(&self, right: &Right) -> u64 {
-        let silent = (self.slips(Slip::InstreamDoesNotCall) && right.kind == INSTREAM)
-            || (self.slips(Slip::StorageDoesNotCall) && right.kind == STORAGE);
-        if silent {
-            0
-        } else {
-            1 << right.row
-        }
-    }
-
-    fn lowest_available(&self, rows: u64) -> i64 {
-        let water =
-            if self.slips(Slip::FlowInsteadOfAvailable) { &self.flow } else { &self.available };
-        rows_of(rows).map(|row| water[row]).min().unwrap_or(0)
-    }
-
-    fn rows_at(&self, rows: u64, lowest: i64) -> u64 {
-        rows_of(rows)
-            .filter(|&row| self.available[row] == lowest)
-            .fold(0, |set, row| set | 1 << row)
-    }
-
-    /// "It leaves flow and open water all along the path." Kind 3 "lowers open
-    /// water there only".
-    fn take_from_river(&mut self, right: &Right, path: u64, taken: i64) {
-        if right.kind != INSTREAM {
-            self.raise(path, -taken);
-            return;
-        }
-        if self.slips(Slip::InstreamLowersPath) {
-            rows_of(path).for_each(|row| self.available[row] -= taken);
-        } else {
-            self.available[right.row as usize] -= taken;
-        }
-        if self.slips(Slip::InstreamLowersFlow) {
-            self.flow[right.row as usize] -= taken;
-        }
-    }
-
-    fn raise(&mut self, rows: u64, amount: i64) {
-        for row in rows_of(rows) {
-            self.flow[row] += amount;
-            self.available[row] += amount;
-        }
-    }
-
-    /// "Kind 4 adds it to storage and to taken; the mark is set when a grant
-    /// above 0 fills the reservoir."
-    fn store(&mut self, place: usize, right: &Right, stored: i64) {
-        let reservoir = right.reservoir as usize;
-        self.storage[reservoir] += stored;
-        if !self.slips(Slip::TakenNotKept) {
-            self.board[TAKEN + place] += stored as u64;
-        }
-        let granted = stored > 0 || self.slips(Slip::MarkByZeroGrant);
-        if granted && self.storage[reservoir] == self.capacity(reservoir) {
-            self.marks |= 1 << reservoir;
-        }
-    }
-
-    /// "Kind 2 takes the rest of its ask from storage as far as it lasts. Flow,
-    /// not open water, rises by this on the reservoir's path from its row to just
-    /// above the right's row (002 also raises open water and leaves out the
-    /// reservoir's row)."
-    fn release(&mut self, right: &Right, rest: i64, called: bool) -> i64 {
-        let reservoir = right.reservoir as usize;
-        let released = if self.slips(Slip::DrawAboveStorage) {
-            rest
-        } else if called && self.slips(Slip::CalledProjectWithoutStorage) {
-            0
-        } else {
-            rest.min(self.storage[reservoir])
-        };
-        self.storage[reservoir] -= released;
-        let network = &self.basin.network;
-        let lake_row = self.reservoir_row(reservoir);
-        let mut carried_by = network.path[lake_row] & !network.path[right.row as usize];
-        if self.slips(Slip::ReleaseSkipsLakeRow) {
-            carried_by &= !(1 << lake_row);
-        }
-        if self.slips(Slip::ReleaseReachesRight) {
-            carried_by |= 1 << right.row;
-        }
-        for row in rows_of(carried_by) {
-            self.flow[row] += released;
-            if self.telling.slips(Slip::ReleaseRaisesAvailable) {
-                self.available[row] += released;
-            }
-        }
-        released
-    }
-
-    /// "Kinds 1 and 2, grant d, efficiency e: consumption is floor(d × e / 100),
-    /// the rest returns. Split over points, then over months".
-    fn return_flow(&mut self, right: &Right, grant: &Grant) {
-        let diverted =
-            if self.slips(Slip::RiverPartReturnsOnly) { grant.from_river } else { grant.total() };
-        let returned = diverted - consumption(self.telling, diverted, right.efficiency);
-        if returned == 0 || right.points == 0 {
-            return;
-        }
-        let points = &right.returns[..right.points as usize];
-        let pattern = self.basin.sections.patterns[right.pattern as usize];
-        if self.slips(Slip::MonthsBeforePoints) {
-            let mut over_months = Split::of(returned);
-            for (lag, &percent) in pattern.iter().enumerate() {
-                let mut over_points = Split::of(over_months.share(self.telling, percent));
-                for point in points {
-                    let share = over_points.share(self.telling, point.percent);
-                    self.return_share(point.row as usize, lag, share);
-                }
-            }
-            return;
-        }
-        let mut over_points = Split::of(returned);
-        for point in points {
-            let mut part = over_points.share(self.telling, point.percent);
-            if self.slips(Slip::FirstPointTakesAll) {
-                part = if std::ptr::eq(point, &points[0]) { returned } else { 0 };
-            }
-            let mut over_months = Split::of(part);
-            for (lag, &percent) in pattern.iter().enumerate() {
-                let share = over_months.share(self.telling, percent);
-                self.return_share(point.row as usize, lag, share);
-            }
-        }
-    }
-
-    /// "Month 0 raises flow and open water at once along the return row's path;
-    /// month k adds to due at k, counted from the present month."
-    fn return_share(&mut self, row: usize, lag: usize, share: i64) {
-        if share == 0 {
-            return;
-        }
-        if lag > 0 {
-            let late = self.slips(Slip::DueOneMonthLate) as usize;
-            self.board[due(row, (lag + late).min(LAGS))] += share as u64;
-            return;
-        }
-        let mut reached = self.basin.network.path[row];
-        if self.slips(Slip::ReturnAtRowOnly) {
-            reached = 1 << row;
-        }
-        self.raise(reached, share);
-        if self.slips(Slip::ReturnFlowOnly) {
-            rows_of(reached).for_each(|row| self.available[row] -= share);
-        }
-        if self.slips(Slip::ReturnTwice) {
-            rows_of(reached).for_each(|row| self.available[row] += share);
-        }
-    }
-
-    /// "A right is short if its grant, both parts together, is below its ask."
-    fn is_short(&self, right: &Right, grant: &Grant, demand: i64) -> bool {
-        if self.slips(Slip::ShortByRiverOnly) {
-            return grant.from_river < demand;
-        }
-        if self.slips(Slip::StorageShortByAmount) && right.kind == STORAGE {
-            return grant.total() < self.scheduled(right);
-        }
-        grant.total() < demand
-    }
-
-    /// "The reason is the first that fits of these, in this order": 0, 3, 1, 2;
-    /// with the rows that may be named.
-    fn reason(&self, right: &Right, short: bool, callers: u64, low_rows: u64) -> (u64, u64) {
-        if !short {
-            return (0, 0);
-        }
-        if right.kind == PROJECT && !(self.slips(Slip::CalledBeforeStorageLow) && callers != 0) {
-            return (3, 1 << self.reservoir_row(right.reservoir as usize));
-        }
-        if callers != 0 {
-            return (1, callers);
-        }
-        (2, low_rows)
-    }
-
-    /// The station named: of the rows that may be, the first on the path.
-    fn named(&self, right: &Right, reason: u64, rows: u64) -> u64 {
-        if reason == 0 {
-            return 0;
-        }
-        let own_row = (reason == 1 && self.slips(Slip::CalledNamesOwnRow))
-            || (reason == 2 && self.slips(Slip::RiverLowNamesOwnRow))
-            || (reason == 3 && self.slips(Slip::ProjectNamesOwnRow));
-        let last_row = reason == 2 && self.slips(Slip::RiverLowNamesLastRow);
-        if own_row {
-            self.station_number(right.row as usize)
-        } else if last_row || rows == 0 {
-            self.station_number(self.rows() - 1)
-        } else {
-            self.station_number(rows.trailing_zeros() as usize)
-        }
-    }
-
-    /// Only for the slip: seniors come back for water that returned after them.
-    fn serve_seniors_again(&mut self, report: &mut [u64]) {
-        for (place, record) in self.basin.sections.rights.iter().enumerate() {
-            let right = Right::decode(record);
-            if right.kind != DIRECT || report[4 * place + 2] == 0 {
-                continue;
-            }
-            let path = self.basin.network.path[right.row as usize];
-            let lacking = self.scheduled(&right) - report[4 * place] as i64;
-            let more = lacking.min(self.lowest_available(path));
-            self.raise(path, -more);
-            report[4 * place] += more as u64;
-        }
-    }
-
-    /// "per row, flow and open water as step 3 leaves them".
+    /// Flow and available flow of every row, after the last right.
     fn report_rows(&self, report: &mut [u64]) {
         let start = 4 * self.basin.sections.rights.len();
         let rows = self.rows();
@@ -612,7 +240,7 @@ impl<'a, T: Telling> Month<'a, T> {
         }
     }
 
-    /// Step 4: "Evaporation: area × depth of m, at most the storage."
+    /// Step 4: every reservoir loses this month's depth over its area, or all that it has.
     fn evaporate(&mut self, report: &mut [u64]) {
         let start = 4 * self.basin.sections.rights.len() + 2 * self.rows();
         let late = self.slips(Slip::DepthOfNextMonth) as usize;
@@ -633,7 +261,7 @@ impl<'a, T: Telling> Month<'a, T> {
         }
     }
 
-    /// Step 5: "m goes on, 11 to 0."
+    /// Step 5: October follows September.
     fn end(self) {
         for place in 0..self.basin.sections.reservoirs.len() {
             self.board[STORAGES + place] = self.storage[place] as u64;

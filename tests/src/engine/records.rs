@@ -3,7 +3,7 @@
 //! Decoding loses nothing and judges nothing: a record that breaks a rule is
 //! decoded as it stands, so that the rules can be asked of it afterwards.
 
-/// Length of the table of contents: "First a table of contents, 32 bytes".
+/// Length of the table of contents (01, The basin file).
 pub const CONTENTS_BYTES: usize = 32;
 pub const STATION_BYTES: usize = 8;
 pub const RESERVOIR_BYTES: usize = 68;
@@ -16,10 +16,13 @@ pub const MOST_PATTERNS: usize = 16;
 pub const MOST_RIGHTS: usize = 256;
 pub const MONTHS: usize = 12;
 
-/// "Kinds: 1 direct; 2 project, with a reservoir behind it; 3 instream; 4 storage."
+/// A right to divert what the river carries.
 pub const DIRECT: u8 = 1;
+/// A right to divert that a reservoir makes up for where the river does not do.
 pub const PROJECT: u8 = 2;
+/// A right to flow left in the river.
 pub const INSTREAM: u8 = 3;
+/// A right to store.
 pub const STORAGE: u8 = 4;
 
 /// The byte that stands for "no reservoir" and for "no pattern".
@@ -191,7 +194,7 @@ pub struct Basin {
 }
 
 impl Basin {
-    /// The file of this basin, packed as 01 wants it, whatever the records say.
+    /// The file of this basin, packed as it has to be, whatever the records say.
     pub fn encode(&self) -> Vec<u8> {
         let counts = [
             (self.stations.len(), STATION_BYTES),
@@ -213,8 +216,8 @@ impl Basin {
         file
     }
 
-    /// The numbers a report of this basin holds:
-    /// "4 × rights + 2 × stations + reservoirs".
+    /// The numbers that a report of this basin holds: four to a right, two to a row, one
+    /// to a reservoir.
     pub fn report_length(&self) -> usize {
         4 * self.rights.len() + 2 * self.stations.len() + self.reservoirs.len()
     }

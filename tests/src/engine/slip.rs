@@ -66,7 +66,7 @@ slips! {
     RunoffAtLeast: "a runoff list longer than the stations is accepted",
     RunoffLimitTight: "runoff of exactly 1,000,000,000 is refused",
     RunoffLastAtFault: "the last row over the runoff limit is named",
-    RunoffBeforeBoard: "runoff over its limit is asked before the board",
+    RunoffBeforeBoard: "runoff over its limit is looked at before the board",
     BoardAnyMonth: "m = 12 is possible",
     BoardStorageAny: "storage above capacity is possible",
     BoardMarksAny: "marks may name reservoirs that do not exist",
@@ -85,11 +85,11 @@ slips! {
     DuesNotUsed: "returns due at k = 1 are left out of the flow",
     DuesNotMoved: "the dues do not move one month nearer",
     DueElevenStays: "k = 11 keeps its content when the dues move",
-    AvailableWithoutReturns: "open water starts without the returns due",
+    AvailableWithoutReturns: "available flow starts without the returns due",
     // Step 3.
     MonthBitReversed: "bit 11 - m is looked at for month m",
     MonthsWordZeroMeansAll: "a months word of 0 means every month",
-    LimitLeftIgnored: "a storage right asks without regard to the limit left",
+    LimitLeftIgnored: "a storage right's demand has no regard to the limit left",
     CapacityAtMonthsBeginning: "capacity left is that of the month's beginning",
     MarkIgnored: "a filled reservoir is stored into again",
     MarkByZeroGrant: "a grant of 0 marks a full reservoir",
@@ -102,18 +102,18 @@ slips! {
     InstreamDoesNotCall: "a short instream right does not call",
     StorageDoesNotCall: "a short storage right does not call",
     InstreamCalled: "an instream right can be called",
-    InstreamLowersPath: "an instream right lowers open water on its whole path",
+    InstreamLowersPath: "an instream right lowers available flow on its whole path",
     InstreamLowersFlow: "an instream right lowers flow too",
-    InstreamLooksDownPath: "an instream right is held by the lowest open water on its path",
-    OwnRowOnly: "only open water at the right's own row is looked at",
-    FlowInsteadOfAvailable: "the river part is measured against flow, not open water",
+    InstreamLooksDownPath: "an instream right is held by the lowest available flow on its path",
+    OwnRowOnly: "only available flow at the right's own row is looked at",
+    FlowInsteadOfAvailable: "the river part is measured against flow, not available flow",
     CalledProjectWithoutStorage: "a called project right gets no water from storage",
     StorageFirst: "a project right takes storage first, then the river",
     DrawAboveStorage: "a project right draws more than is stored",
-    ReleaseRaisesAvailable: "released water raises open water",
+    ReleaseRaisesAvailable: "released water raises available flow",
     ReleaseSkipsLakeRow: "a release leaves out the reservoir's row",
     ReleaseReachesRight: "a release raises flow at the right's row too",
-    ShortByRiverOnly: "a right is short if its river part is below its ask",
+    ShortByRiverOnly: "a right is short if its river part is below its demand",
     StorageShortByAmount: "a storage right is short against its full amount",
     ShortsCountCalled: "the answer counts rights called, not short",
     // Returns.
@@ -125,7 +125,7 @@ slips! {
     RiverPartReturnsOnly: "only the river part returns water",
     FirstPointTakesAll: "the first return point gets everything",
     ReturnFlowOnly: "a return of this month raises flow only",
-    ReturnTwice: "a return of this month is added to open water twice",
+    ReturnTwice: "a return of this month is added to available flow twice",
     ReturnAtRowOnly: "a return raises its own row only",
     ReturnUsedBySenior: "a return is used by a senior already served",
     DueOneMonthLate: "month k adds to due at k + 1",
@@ -142,7 +142,7 @@ slips! {
     AreaNearestAbove: "area is that of the next pair above",
     DepthOfNextMonth: "the depth of the next month is used",
     MonthTwelve: "m goes on from 11 to 12",
-    FlowsThenAvailable: "the report holds all flows, then all open waters",
+    FlowsThenAvailable: "the report holds all flows, then all available flows",
 }
 
 /// How the rules are told: rightly, or with one slip.
@@ -150,7 +150,7 @@ pub trait Telling {
     fn slips(&self, slip: Slip) -> bool;
 }
 
-/// The rules as 01 has them.
+/// The rules as they are.
 pub struct Faithful;
 
 impl Telling for Faithful {

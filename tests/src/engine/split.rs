@@ -3,10 +3,10 @@
 use super::records::Pair;
 use super::slip::{Slip, Telling};
 
-/// Splits an amount by percents, one share after the other: "with C the sum of
-/// percents up to and including a share's own, that share of a is
-/// floor(a × C / 100) less the same for the share before". So nothing is lost:
-/// the shares of percents that sum to 100 add up to the amount.
+/// Splits an amount by percents, one share after the other. Rounded down is not the
+/// share but the amount up to it, by the percents so far; a share is what that has
+/// grown by. So nothing is lost: the shares of percents that sum to 100 add up to the
+/// amount (01, The board and one month, step 3).
 pub struct Split {
     amount: i64,
     percents: i64,
@@ -36,7 +36,7 @@ impl Split {
     }
 }
 
-/// "consumption is floor(d × e / 100), the rest returns".
+/// What of a grant is consumed: its efficiency in hundredths, rounded down.
 #[inline(always)]
 pub fn consumption<T: Telling>(telling: &T, grant: i64, efficiency: u8) -> i64 {
     let hundredths = grant * efficiency as i64;
@@ -49,8 +49,7 @@ pub fn consumption<T: Telling>(telling: &T, grant: i64, efficiency: u8) -> i64 {
     }
 }
 
-/// "Area is that of the highest table pair whose storage is not above the
-/// present storage."
+/// The area of a lake: that of the last pair of its table that the storage reaches.
 pub fn area<T: Telling>(telling: &T, area_capacity: &[Pair; 4], storage: i64) -> i64 {
     let not_above = |pair: &&Pair| {
         if telling.slips(Slip::AreaBelowPair) && pair.storage > 0 {

@@ -1,16 +1,30 @@
-//! The tally of a list of months (account of a run), told as slowly and as
-//! literally as 01 tells it. It shares the records and the file's check with the
-//! engine, and nothing of the month: paths are walked row by row, returns in
-//! transit are worked out from the grants of the past months.
+//! The tally of a list of months, the account of a run, told as slowly and as
+//! literally as the rules tell it (01, The tally of a list of months). It shares the
+//! records and the file's check with the engine, and nothing of the month: paths are
+//! walked row by row, returns on their way are worked out from the grants of the past
+//! months.
 //!
-//! After every call it asserts the water sum and each reservoir's account, and
-//! at every moment that 01 names that 0 <= open water <= flow at every row.
+//! After every call it asserts the water sum and each reservoir's account; before the
+//! first right and three times in each right's turn, that at every row
+//! 0 <= available flow <= flow.
 
-use super::check::{judge, Network, Refusal};
+use super::check::Refusal;
 use super::records::*;
-use super::slip::Faithful;
 
-/// "A grant carries two amounts and its reason."
+mod accounts;
+mod paths;
+mod refusals;
+mod river;
+mod shares;
+#[cfg(test)]
+mod tests;
+pub use paths::{path, row_below};
+use refusals::{decode, refused};
+use river::River;
+use shares::shares;
+pub use shares::split;
+
+/// What a right was given in a month, and why no more.
 #[derive(Clone, Debug, PartialEq, Eq)]
 pub struct Grant {
     pub from_river: i128,
@@ -29,7 +43,7 @@ pub enum Reason {
 }
 
 impl Reason {
-    /// 01's number of each reason.
+    /// The number of each reason in a report.
     pub fn number(self) -> u64 {
         match self {
             Reason::NotShort => 0,
@@ -69,7 +83,7 @@ pub struct Tally {
 }
 
 impl Tally {
-    /// "It starts as fresh, without months."
+    /// It begins with the reservoirs as the file fills them, and no month.
     pub fn new(file: &[u8]) -> Tally {
         let basin = decode(file);
         let empty = Basin::default();
@@ -82,8 +96,8 @@ impl Tally {
         Tally { basin, paths, m: 0, storages, marks, taken, months: Vec::new() }
     }
 
-    /// One call: "fed the file and each call's arguments except the board, of the
-    /// report only its length". Answers as the month call does.
+    /// One call. It is told what a month call is, but for the board, and of the report
+    /// only how long it is; it answers as the month call does.
     pub fn call(&mut self, runoff: &[u32], report_length: usize) -> (u32, u32) {
         let basin = match &self.basin {
             Ok(basin) => basin.clone(),
@@ -218,7 +232,7 @@ impl Tally {
         self.storages[lake] -= released;
         for &row in &self.paths[basin.reservoirs[lake].row as usize] {
             if row == right.row as usize {
-                break; // "to just above the right's row"
+                break; // the right takes it there
             }
             river.flow[row] += released;
         }
@@ -242,9 +256,9 @@ impl Tally {
         evaporation
     }
 
-    /// "Pending, after n accepted months, at a row for k = 1–11: the sum of all
-    /// shares returned at that row s months after a grant of month j, with
-    /// j + s = n + k." Place k - 1 of a row holds k.
+    /// What is on its way after n months: a share that a grant of month j returns s
+    /// months later arrives in month j + s, which is k months on. Place k - 1 of a row
+    /// holds k.
     fn pending(&self, basin: &Basin) -> Vec<[i128; 11]> {
         let n = self.months.len();
         let mut pending = vec![[0; 11]; basin.stations.len()];
@@ -264,203 +278,5 @@ impl Tally {
     /// Pending of an accepted file, for comparison with a board's dues.
     pub fn pending_returns(&self) -> Vec<[i128; 11]> {
         self.basin.as_ref().map_or(Vec::new(), |basin| self.pending(basin))
-    }
-
-    /// Runoff of the accepted months + starting storage = outflow + consumption +
-    /// evaporation + returns still on their way + storage now.
-    fn assert_water_sum(&self, basin: &Basin) {
-        let mut came: i128 = basin.reservoirs.iter().map(|r| r.start as i128).sum();
-        let mut went: i128 = self.storages.iter().sum();
-        went += self.pending(basin).iter().flatten().sum::<i128>();
-        for month in &self.months {
-            came += month.runoff.iter().map(|&r| r as i128).sum::<i128>();
-            went += month.flow.last().unwrap();
-            went += month.evaporation.iter().sum::<i128>();
-            for (right, grant) in basin.rights.iter().zip(&month.grants) {
-                if right.kind == DIRECT || right.kind == PROJECT {
-                    went += grant.total() * right.efficiency as i128 / 100;
-                }
-            }
-        }
-        assert_eq!(came, went, "water sum after {} months", self.months.len());
-    }
-
-    /// "A reservoir's storage now is its starting storage + river parts of its
-    /// kind 4 rights − reservoir parts of its kind 2 rights − its evaporation".
-    fn assert_reservoir_accounts(&self, basin: &Basin) {
-        for (lake, reservoir) in basin.reservoirs.iter().enumerate() {
-            let mut storage = reservoir.start as i128;
-            for month in &self.months {
-                storage -= month.evaporation[lake];
-                for (right, grant) in basin.rights.iter().zip(&month.grants) {
-                    if right.reservoir as usize == lake {
-                        match right.kind {
-                            STORAGE => storage += grant.from_river,
-                            PROJECT => storage -= grant.from_storage,
-                            _ => unreachable!("only kinds 2 and 4 name a reservoir"),
-                        }
-                    }
-                }
-            }
-            assert_eq!(storage, self.storages[lake], "account of reservoir {lake}");
-        }
-    }
-}
-
-/// Decodes an accepted file; the check decides which are.
-fn decode(file: &[u8]) -> Result<Basin, Refusal> {
-    let mut network = Network::room();
-    let judged = judge(&Faithful, file, &mut network)?;
-    Ok(Basin {
-        stations: judged.sections.stations.iter().map(Station::decode).collect(),
-        reservoirs: judged.sections.reservoirs.iter().map(Reservoir::decode).collect(),
-        patterns: judged.sections.patterns.to_vec(),
-        rights: judged.sections.rights.iter().map(Right::decode).collect(),
-    })
-}
-
-/// "A call that the rules refuse is answered with number and place and changes
-/// nothing; its board is never the cause." So 6 and 8 are left.
-fn refused(basin: &Basin, runoff: &[u32], report_length: usize) -> Option<(u32, u32)> {
-    if runoff.len() != basin.stations.len() || report_length < basin.report_length() {
-        return Some((6, 0));
-    }
-    let over = runoff.iter().position(|&number| number > 1_000_000_000)?;
-    Some((8, over as u32))
-}
-
-/// "The row below a row of order o is the first later row with order o or o − 1".
-pub fn row_below(stations: &[Station], row: usize) -> Option<usize> {
-    let order = stations[row].order as i32;
-    (row + 1..stations.len()).find(|&later| {
-        let other = stations[later].order as i32;
-        other == order || other == order - 1
-    })
-}
-
-/// "The path of a row is that row, followed by the path of the row below."
-pub fn path(stations: &[Station], row: usize) -> Vec<usize> {
-    let mut rows = vec![row];
-    if let Some(below) = row_below(stations, row) {
-        rows.extend(path(stations, below));
-    }
-    rows
-}
-
-/// All shares returned by a grant: return row, months after the grant, amount.
-fn shares(basin: &Basin, right: &Right, grant: i128) -> Vec<(usize, usize, i128)> {
-    let mut all = Vec::new();
-    if right.kind != DIRECT && right.kind != PROJECT {
-        return all;
-    }
-    let returned = grant - grant * right.efficiency as i128 / 100;
-    let points = &right.returns[..right.points as usize];
-    let percents: Vec<u8> = points.iter().map(|point| point.percent).collect();
-    for (point, part) in points.iter().zip(split(returned, &percents)) {
-        let by_month = split(part, &basin.patterns[right.pattern as usize]);
-        for (lag, share) in by_month.into_iter().enumerate() {
-            all.push((point.row as usize, lag, share));
-        }
-    }
-    all
-}
-
-/// "with C the sum of percents up to and including a share's own, that share of a
-/// is floor(a × C / 100) less the same for the share before".
-pub fn split(amount: i128, percents: &[u8]) -> Vec<i128> {
-    let up_to = |count: usize| {
-        let sum: i128 = percents[..count].iter().map(|&p| p as i128).sum();
-        amount * sum / 100
-    };
-    (0..percents.len()).map(|place| up_to(place + 1) - up_to(place)).collect()
-}
-
-/// Flow and open water of one month, with a sign.
-struct River {
-    flow: Vec<i128>,
-    available: Vec<i128>,
-}
-
-impl River {
-    /// "Flow at a row is runoff plus returns due at k = 1, summed over all rows
-    /// whose path holds it. Open water starts equal to flow."
-    fn start(paths: &[Vec<usize>], runoff: &[u32], due_now: &[i128]) -> River {
-        let mut flow = vec![0; paths.len()];
-        for (row, path) in paths.iter().enumerate() {
-            for &holds in path {
-                flow[holds] += runoff[row] as i128 + due_now[row];
-            }
-        }
-        let river = River { available: flow.clone(), flow };
-        river.assert_in_bounds("before the first right");
-        river
-    }
-
-    fn change(&mut self, path: &[usize], amount: i128) {
-        for &row in path {
-            self.flow[row] += amount;
-            self.available[row] += amount;
-        }
-    }
-
-    /// What is still open to later rights is never more than flows there, and
-    /// never less than nothing.
-    fn assert_in_bounds(&self, moment: &str) {
-        for (row, (&flow, &available)) in self.flow.iter().zip(&self.available).enumerate() {
-            assert!(
-                0 <= available && available <= flow,
-                "{moment}: open water {available} of flow {flow} at row {row}"
-            );
-        }
-    }
-}
-
-/// The assertions can fail: each is shown a run that breaks it.
-#[cfg(test)]
-mod tests {
-    use super::*;
-    use crate::examples::{october, OCTOBER_RUNOFF};
-
-    fn after_one_month() -> Tally {
-        let mut tally = Tally::new(&october().encode());
-        assert_eq!(tally.call(&OCTOBER_RUNOFF, 27), (0, 2));
-        tally
-    }
-
-    #[test]
-    #[should_panic(expected = "water sum")]
-    fn water_that_vanishes_is_seen() {
-        let mut tally = after_one_month();
-        tally.months[0].flow[2] -= 1;
-        tally.call(&OCTOBER_RUNOFF, 27);
-    }
-
-    #[test]
-    #[should_panic(expected = "water sum")]
-    fn water_that_appears_in_a_lake_is_seen() {
-        let mut tally = after_one_month();
-        tally.storages[0] += 1;
-        tally.call(&[], 0); // refused, and asserted all the same
-    }
-
-    #[test]
-    #[should_panic(expected = "account of reservoir 0")]
-    fn water_moved_from_river_to_lake_is_seen() {
-        let mut tally = after_one_month();
-        tally.storages[0] += 1;
-        tally.months[0].flow[2] -= 1;
-        tally.call(&[], 0);
-    }
-
-    #[test]
-    #[should_panic(expected = "after returns: open water 6 of flow 5 at row 1")]
-    fn open_water_above_flow_is_seen() {
-        River { flow: vec![5, 5], available: vec![5, 6] }.assert_in_bounds("after returns");
-    }
-
-    #[test]
-    #[should_panic(expected = "open water -1")]
-    fn open_water_below_nothing_is_seen() {
-        River { flow: vec![5, 5], available: vec![-1, 5] }.assert_in_bounds("after returns");
     }
 }

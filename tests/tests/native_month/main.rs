@@ -8,12 +8,16 @@
 //! are to have. A list depends on its seed alone, so `RIVER_SEED=n RIVER_CALLS=1`
 //! runs the one that a message names.
 
+mod compare;
+mod spoils;
+
+use compare::{Call, Compared};
 use river_tests::damage::*;
 use river_tests::engine::board::*;
+use river_tests::engine::fresh;
 use river_tests::engine::records::*;
-use river_tests::engine::{fresh, month_allowed};
-use river_tests::ffi;
 use river_tests::generate::{any_river, river, river_of, River, Rng, Size, Volume, Water};
+use spoils::SPOILS;
 use std::env;
 use std::fmt::Display;
 
@@ -29,123 +33,38 @@ fn first_seed() -> u64 {
     from_environment("RIVER_SEED").unwrap_or(FIRST_SEED)
 }
 
-/// What a month call is lent.
-#[derive(Clone)]
-struct Call {
-    file: Vec<u8>,
-    runoff: Vec<u32>,
-    board: Vec<u64>,
-    report: Vec<u64>,
-}
+// ---- lists of months ----
 
-impl Call {
-    /// A call that the rules accept. The report has any content, and often more
-    /// places than it needs.
-    fn of(river: &River, board: &[u64], rng: &mut Rng) -> Call {
-        let length = river.basin.report_length() + *rng.pick(&[0, 0, 1, 2, 50, 1160]);
-        Call {
-            file: river.file.clone(),
-            runoff: river.runoff(rng),
-            board: board.to_vec(),
-            report: (0..length).map(|_| rng.word()).collect(),
-        }
+/// The river of a list: every size, the largest file among them.
+fn river_of_list(seed: u64, rng: &mut Rng) -> River {
+    match seed % 32 {
+        0 => river(&mut Rng::new(20736), Size::Limit, Volume::Usual, Water::Even),
+        1 => river_of(rng, Size::Limit),
+        2 => river_of(rng, Size::One),
+        _ => any_river(rng),
     }
 }
 
-// ---- the comparison ----
-
-/// Numbers on either side of a lent list, which no call may touch.
-const BESIDE: [u64; 3] = [0x5a5a_5a5a_5a5a_5a5a; 3];
-
-fn between(list: &[u64]) -> Vec<u64> {
-    [&BESIDE, list, &BESIDE].concat()
-}
-
-fn lent(all: &mut [u64]) -> &mut [u64] {
-    let end = all.len() - BESIDE.len();
-    &mut all[BESIDE.len()..end]
-}
-
-/// Asserts that the native list, with what lies beside it, is the expected one.
-fn assert_same(native: &[u64], expected: &[u64], list: &str, at: &dyn Display) {
-    let expected = between(expected);
-    assert_eq!(native.len(), expected.len());
-    if let Some(place) = (0..native.len()).find(|&place| native[place] != expected[place]) {
-        let (native, expected) = (native[place], expected[place]);
-        let place = place as isize - BESIDE.len() as isize;
-        panic!("{at}: {list}, place {place} is {native}, not {expected}");
+/// The fresh board, or any possible one, now and then an extreme one.
+fn first_board(river: &River, rng: &mut Rng) -> Vec<u64> {
+    let mut board = vec![0; BOARD];
+    if rng.chance(40) {
+        assert_eq!(fresh(&river.file, &mut board), (0, 0));
+        return board;
     }
-}
-
-#[derive(Default, Debug)]
-struct Compared {
-    calls: usize,
-    /// Calls by their number: 0 accepted, 1 to 8 refused.
-    numbers: [usize; 9],
-    /// Rights of accepted calls by reason.
-    reasons: [usize; 4],
-    /// Rights whose station is another one than the plain engine names.
-    other_station: usize,
-}
-
-impl Compared {
-    /// Runs a call by both engines. Answers number and place; the board of an accepted
-    /// call is left in `call`.
-    fn compare(&mut self, call: &mut Call, at: &dyn Display) -> (u32, u32) {
-        let (mut board, mut report) = (call.board.clone(), call.report.clone());
-        let (answer, allowed) = month_allowed(&call.file, &call.runoff, &mut board, &mut report);
-        let (mut native_board, mut native_report) = (between(&call.board), between(&call.report));
-        let native =
-            ffi::month(&call.file, &call.runoff, lent(&mut native_board), lent(&mut native_report));
-        assert_eq!(native, answer, "{at}: the answer");
-        self.calls += 1;
-        self.numbers[answer.0 as usize] += 1;
-        if answer.0 != 0 {
-            assert_same(&native_board, &call.board, "refused, board", at);
-            assert_same(&native_report, &call.report, "refused, report", at);
-            return answer;
-        }
-        self.take_named(&mut report, lent(&mut native_report), &allowed);
-        assert_same(&native_report, &report, "report", at);
-        assert_same(&native_board, &board, "board", at);
-        call.board = board;
-        call.report = report;
-        answer
+    board = river.possible_board(rng);
+    if rng.chance(30) {
+        let &(_, edit) = rng.pick(POSSIBLE);
+        edit(&river.basin, &mut board);
     }
-
-    /// "In 1 and 2 any such row may be named; this alone is free." Where the native
-    /// station may be named, it is the expected one.
-    fn take_named(&mut self, report: &mut [u64], native: &[u64], allowed: &[Vec<u32>]) {
-        for (place, stations) in allowed.iter().enumerate() {
-            let (reason, at) = (report[4 * place + 2], 4 * place + 3);
-            let may_name = stations.iter().any(|&number| number as u64 == native[at]);
-            if (reason == 1 || reason == 2) && may_name {
-                self.other_station += (report[at] != native[at]) as usize;
-                report[at] = native[at];
-            }
-            self.reasons[reason as usize] += 1;
-        }
-    }
-
-    fn print(&self, what: &str) {
-        let refused: usize = self.numbers[1..].iter().sum();
-        println!(
-            "{what}: {} calls, {} accepted, {refused} refused, by number 1 to 8 {:?}; rights by \
-             reason 0 to 3 {:?}, {} with another station than the plain engine's",
-            self.calls,
-            self.numbers[0],
-            &self.numbers[1..],
-            self.reasons,
-            self.other_station
-        );
-    }
+    board
 }
 
 /// Storage rights that would have stored something but for a filled mark, followed
 /// from right to right by what the report says they were granted.
 fn blocked_by_marks(basin: &Basin, before: &[u64], report: &[u64], at: &dyn Display) -> usize {
     let m = before[NEXT_MONTH] as usize;
-    let october = m == 0; // "At m = 0, taken and marks become 0."
+    let october = m == 0; // what the year before took and marked is gone
     let mut marks = if october { 0 } else { before[MARKS] };
     let mut storages = before[STORAGES..MARKS].to_vec();
     let mut blocked = 0;
@@ -171,76 +90,6 @@ fn blocked_by_marks(basin: &Basin, before: &[u64], report: &[u64], at: &dyn Disp
         }
     }
     blocked
-}
-
-// ---- lists of months ----
-
-/// Spoils a call, mostly so that it is refused.
-type Spoil = fn(&mut Call, &River, &mut Rng);
-
-const SPOILS: &[(&str, Spoil)] = &[
-    ("file damaged at random", |call, _, rng| call.file = random_damage(rng, &call.file)),
-    ("file that breaks a rule", |call, river, rng| {
-        let mut basin = river.basin.clone();
-        let &(_, _, edit) = rng.pick(BROKEN);
-        if edit(&mut basin, rng).is_some() {
-            call.file = basin.encode();
-        }
-    }),
-    ("runoff too short", |call, _, rng| {
-        let rows = call.runoff.len();
-        call.runoff.truncate(rng.below(rows.max(1)));
-    }),
-    ("runoff too long", |call, _, rng| {
-        let more = *rng.pick(&[1, 2, 64]);
-        call.runoff.resize(call.runoff.len() + more, 0);
-    }),
-    ("runoff over its limit", |call, _, rng| {
-        for _ in 0..*rng.pick(&[1, 1, 2, 5]) {
-            let over = *rng.pick(&[1_000_000_001, 1 << 31, u32::MAX]);
-            let rows = call.runoff.len();
-            if rows > 0 {
-                call.runoff[rng.below(rows)] = over;
-            }
-        }
-    }),
-    ("board too short", |call, _, rng| call.board.truncate(*rng.pick(&[0, 1, 500, BOARD - 1]))),
-    ("board too long", |call, _, rng| call.board.resize(*rng.pick(&[BOARD + 1, 2 * BOARD]), 0)),
-    ("impossible board", |call, river, rng| {
-        if call.board.len() == BOARD {
-            let &(_, edit) = rng.pick(IMPOSSIBLE);
-            impossible_board(edit, &river.basin, &mut call.board, rng);
-        }
-    }),
-    ("report too short", |call, river, rng| {
-        let length = river.basin.report_length();
-        call.report.truncate(*rng.pick(&[0, length / 2, length - 1, length - 1]));
-    }),
-];
-
-/// The river of a list: every size, the largest file among them.
-fn river_of_list(seed: u64, rng: &mut Rng) -> River {
-    match seed % 32 {
-        0 => river(&mut Rng::new(20736), Size::Limit, Volume::Usual, Water::Even),
-        1 => river_of(rng, Size::Limit),
-        2 => river_of(rng, Size::One),
-        _ => any_river(rng),
-    }
-}
-
-/// The fresh board, or any possible one, now and then an extreme one.
-fn first_board(river: &River, rng: &mut Rng) -> Vec<u64> {
-    let mut board = vec![0; BOARD];
-    if rng.chance(40) {
-        assert_eq!(fresh(&river.file, &mut board), (0, 0));
-        return board;
-    }
-    board = river.possible_board(rng);
-    if rng.chance(30) {
-        let &(_, edit) = rng.pick(POSSIBLE);
-        edit(&river.basin, &mut board);
-    }
-    board
 }
 
 /// What happened in the lists, beside the comparison.
@@ -398,7 +247,7 @@ fn impossible_boards() {
             if impossible_board(edit, &river.basin, &mut call.board, rng).is_none() {
                 continue;
             }
-            // "The lowest number that applies is given": 7 also where 8 does.
+            // Of two numbers the lower is given: 7 also where 8 applies.
             if rng.chance(30) {
                 call.runoff[0] = 1_000_000_001;
             }

@@ -1,0 +1,104 @@
+# How a case of riverrun.sh is run and judged, and what the cases are made of. Sourced.
+# From riverrun.sh: riverrun, the program; samples, the folder of the sample rivers; work, a folder for everything that is written.
+
+# ---- how a case is run and judged ----
+
+cases=0
+mkdir "$work/cases"
+# A fresh folder, into which what follows puts the two files.
+begin() {
+    name=$1
+    mkdir "$work/cases/$name"
+    cd "$work/cases/$name"
+}
+
+# Whoever called this script may have SIGPIPE ignored, which is handed down; a program that hangs is ended. Arguments: those of env.
+launch() {
+    timeout 20 env --default-signal=PIPE "$@" "$riverrun"
+}
+
+run() {
+    status=0
+    launch "$@" >"$work/out" 2>"$work/err" || status=$?
+}
+
+not_as_wanted() {
+    echo "riverrun, case $name: $1 (< wanted, > found)" >&2
+    head -20 "$work/difference" >&2
+    exit 1
+}
+
+# Compares the run with its status, with what it is to say on standard error, and with the file of what it is to print.
+judge() {
+    printf '%s' "${2:+$2$'\n'}" >"$work/wanted_err"
+    diff <(echo "$1") <(echo "$status") >"$work/difference" || not_as_wanted "how it ended"
+    diff -a "$work/wanted_err" "$work/err" >"$work/difference" || not_as_wanted "standard error"
+    diff -a "$3" "$work/out" >"$work/difference" || not_as_wanted "standard output"
+    cases=$((cases + 1))
+}
+
+# The same, with the lines that it is to print.
+wants() {
+    local status_wanted=$1 said=$2
+    shift 2
+    if [ $# -gt 0 ]; then printf '%s\n' "$@"; fi >"$work/wanted_out"
+    judge "$status_wanted" "$said" "$work/wanted_out"
+}
+
+# ---- files ----
+
+# A number of four bytes, the least first.
+number() {
+    printf "$(printf '\\x%02x\\x%02x\\x%02x\\x%02x' $(($1 & 255)) $(($1 >> 8 & 255)) $(($1 >> 16 & 255)) $(($1 >> 24 & 255)))"
+}
+
+numbers() {
+    for n in "$@"; do number "$n"; done
+}
+
+# Puts one byte, given in hexadecimal, in a place of a file.
+put() {
+    printf "\\x$3" | dd of="$1" bs=1 seek="$2" conv=notrunc status=none
+}
+
+# Writes the file on itself that many times, doubling it.
+double() {
+    for _ in $(seq "$2"); do
+        cat "$1" "$1" >"$1.twice"
+        mv "$1.twice" "$1"
+    done
+}
+
+october_basin() {
+    cp "$samples/october.basin.bin" basin.bin
+}
+
+october_months() {
+    cp "$samples/october.months.bin" months.bin
+}
+
+october() {
+    october_basin
+    october_months
+}
+
+# ---- texts ----
+
+header='MONTH PERMIT RIVER STORE WHY AT'
+# As the rules print it (01, One October, whole).
+october='0 11 1500 0 0 0
+0 12 1201 0 0 0
+0 13 701 0 2 300
+0 14 0 600 0 0
+0 15 0 0 1 100
+0 end 0 50 1051 403'
+# The same sheet again, worked out by hand. Flow is 2000, 2700 and, with the 242 due, 3242. 11 and 12 are whole; 805 return as before, 402 of them
+# at once. 13 demands 900 of 2000, 1499, 943 and has them. 14 finds 599 and 43: 43 from the river, 557 from storage. 15 finds nothing at 300.
+# Stored: 1051 + 900 - 557. On their way: 161 and again 242 and 161.
+november='1 11 1500 0 0 0
+1 12 1201 0 0 0
+1 13 900 0 0 0
+1 14 43 557 0 0
+1 15 0 0 2 300
+1 end 0 0 1394 564'
+missing='No such file or directory'

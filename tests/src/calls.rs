@@ -1,0 +1,52 @@
+//! The four calls of the rules, by each engine that is there: the plain one and,
+//! under the feature `native`, the static library. A test worked out by hand runs
+//! over all of them, so that its numbers are asked of each.
+
+use crate::engine;
+#[cfg(feature = "native")]
+use crate::ffi;
+
+/// Number and place, or 0 and what the call counts.
+pub type Answer = (u32, u32);
+/// Per right, the numbers of the stations that may be named.
+pub type Allowed = Vec<Vec<u32>>;
+
+pub struct Calls {
+    /// Whose calls they are, for messages.
+    pub by: &'static str,
+    pub check: fn(&[u8]) -> Answer,
+    pub fresh: fn(&[u8], &mut [u64]) -> Answer,
+    /// Also tells which stations may be named, where the engine does.
+    pub month: fn(&[u8], &[u32], &mut [u64], &mut [u64]) -> (Answer, Option<Allowed>),
+    pub stock: fn(&[u8], &[u64]) -> [u64; 4],
+}
+
+pub const ENGINES: &[Calls] = &[
+    Calls {
+        by: "the plain engine",
+        check: engine::check,
+        fresh: engine::fresh,
+        month: |file, runoff, board, report| {
+            let (answer, allowed) = engine::month_allowed(file, runoff, board, report);
+            (answer, Some(allowed))
+        },
+        stock: engine::stock,
+    },
+    #[cfg(feature = "native")]
+    Calls {
+        by: "the static library",
+        check: ffi::check,
+        fresh: ffi::fresh,
+        month: |file, runoff, board, report| (ffi::month(file, runoff, board, report), None),
+        stock: ffi::stock,
+    },
+];
+
+/// Runs a test by every engine. Which one it was stands in the output of a test
+/// that fails.
+pub fn by_each(test: impl Fn(&'static Calls)) {
+    for calls in ENGINES {
+        println!("by {}", calls.by);
+        test(calls);
+    }
+}

@@ -1,0 +1,46 @@
+//! What has to hold of a tally after every call.
+
+use super::Tally;
+use crate::engine::records::*;
+
+impl Tally {
+    /// What came, by runoff and in the reservoirs at the start, is what left by the last
+    /// row, was consumed, evaporated, is on its way or is stored.
+    pub(super) fn assert_water_sum(&self, basin: &Basin) {
+        let mut came: i128 = basin.reservoirs.iter().map(|r| r.start as i128).sum();
+        let mut went: i128 = self.storages.iter().sum();
+        went += self.pending(basin).iter().flatten().sum::<i128>();
+        for month in &self.months {
+            came += month.runoff.iter().map(|&r| r as i128).sum::<i128>();
+            went += month.flow.last().unwrap();
+            went += month.evaporation.iter().sum::<i128>();
+            for (right, grant) in basin.rights.iter().zip(&month.grants) {
+                if right.kind == DIRECT || right.kind == PROJECT {
+                    went += grant.total() * right.efficiency as i128 / 100;
+                }
+            }
+        }
+        assert_eq!(came, went, "water sum after {} months", self.months.len());
+    }
+
+    /// A reservoir holds what it began with and what was stored, without what was
+    /// released and what evaporated.
+    pub(super) fn assert_reservoir_accounts(&self, basin: &Basin) {
+        for (lake, reservoir) in basin.reservoirs.iter().enumerate() {
+            let mut storage = reservoir.start as i128;
+            for month in &self.months {
+                storage -= month.evaporation[lake];
+                for (right, grant) in basin.rights.iter().zip(&month.grants) {
+                    if right.reservoir as usize == lake {
+                        match right.kind {
+                            STORAGE => storage += grant.from_river,
+                            PROJECT => storage -= grant.from_storage,
+                            _ => unreachable!("only kinds 2 and 4 name a reservoir"),
+                        }
+                    }
+                }
+            }
+            assert_eq!(storage, self.storages[lake], "account of reservoir {lake}");
+        }
+    }
+}

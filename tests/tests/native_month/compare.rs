@@ -1,0 +1,114 @@
+//! One month call by both engines: answer, whole board, whole report, and the numbers
+//! that lie beside both.
+
+use river_tests::engine::month_allowed;
+use river_tests::ffi;
+use river_tests::generate::{River, Rng};
+use std::fmt::Display;
+
+/// What a month call is lent.
+#[derive(Clone)]
+pub struct Call {
+    pub file: Vec<u8>,
+    pub runoff: Vec<u32>,
+    pub board: Vec<u64>,
+    pub report: Vec<u64>,
+}
+
+impl Call {
+    /// A call that the rules accept. The report has any content, and often more
+    /// places than it needs.
+    pub fn of(river: &River, board: &[u64], rng: &mut Rng) -> Call {
+        let length = river.basin.report_length() + *rng.pick(&[0, 0, 1, 2, 50, 1160]);
+        Call {
+            file: river.file.clone(),
+            runoff: river.runoff(rng),
+            board: board.to_vec(),
+            report: (0..length).map(|_| rng.word()).collect(),
+        }
+    }
+}
+
+/// Numbers on either side of a lent list, which no call may touch.
+const BESIDE: [u64; 3] = [0x5a5a_5a5a_5a5a_5a5a; 3];
+
+fn between(list: &[u64]) -> Vec<u64> {
+    [&BESIDE, list, &BESIDE].concat()
+}
+
+fn lent(all: &mut [u64]) -> &mut [u64] {
+    let end = all.len() - BESIDE.len();
+    &mut all[BESIDE.len()..end]
+}
+
+/// Asserts that the native list, with what lies beside it, is the expected one.
+fn assert_same(native: &[u64], expected: &[u64], list: &str, at: &dyn Display) {
+    let expected = between(expected);
+    assert_eq!(native.len(), expected.len());
+    if let Some(place) = (0..native.len()).find(|&place| native[place] != expected[place]) {
+        let (native, expected) = (native[place], expected[place]);
+        let place = place as isize - BESIDE.len() as isize;
+        panic!("{at}: {list}, place {place} is {native}, not {expected}");
+    }
+}
+
+#[derive(Default, Debug)]
+pub struct Compared {
+    pub calls: usize,
+    /// Calls by their number: 0 accepted, 1 to 8 refused.
+    pub numbers: [usize; 9],
+    /// Rights of accepted calls by reason.
+    pub reasons: [usize; 4],
+    /// Rights whose station is another one than the plain engine names.
+    other_station: usize,
+}
+
+impl Compared {
+    /// Runs a call by both engines. Answers number and place; the board of an accepted
+    /// call is left in `call`.
+    pub fn compare(&mut self, call: &mut Call, at: &dyn Display) -> (u32, u32) {
+        let (mut board, mut report) = (call.board.clone(), call.report.clone());
+        let (answer, allowed) = month_allowed(&call.file, &call.runoff, &mut board, &mut report);
+        let (mut native_board, mut native_report) = (between(&call.board), between(&call.report));
+        let native =
+            ffi::month(&call.file, &call.runoff, lent(&mut native_board), lent(&mut native_report));
+        assert_eq!(native, answer, "{at}: the answer");
+        self.calls += 1;
+        self.numbers[answer.0 as usize] += 1;
+        if answer.0 != 0 {
+            assert_same(&native_board, &call.board, "refused, board", at);
+            assert_same(&native_report, &call.report, "refused, report", at);
+            return answer;
+        }
+        self.take_named(&mut report, lent(&mut native_report), &allowed);
+        assert_same(&native_report, &report, "report", at);
+        assert_same(&native_board, &board, "board", at);
+        call.board = board;
+        call.report = report;
+        answer
+    }
+
+    /// Under reasons 1 and 2 the choice of a station is free. Where the native one may be
+    /// named, it is the expected one.
+    fn take_named(&mut self, report: &mut [u64], native: &[u64], allowed: &[Vec<u32>]) {
+        for (place, stations) in allowed.iter().enumerate() {
+            let (reason, at) = (report[4 * place + 2], 4 * place + 3);
+            let may_name = stations.iter().any(|&number| number as u64 == native[at]);
+            if (reason == 1 || reason == 2) && may_name {
+                self.other_station += (report[at] != native[at]) as usize;
+                report[at] = native[at];
+            }
+            self.reasons[reason as usize] += 1;
+        }
+    }
+
+    /// native.sh adds up the counts of these lines.
+    pub fn print(&self, what: &str) {
+        let refused: usize = self.numbers[1..].iter().sum();
+        println!(
+            "{} calls, {refused} refused: {what}, by number 0 to 8 {:?}; rights by reason 0 to 3 \
+             {:?}, {} with another station than the plain engine's",
+            self.calls, self.numbers, self.reasons, self.other_station
+        );
+    }
+}
