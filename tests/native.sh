@@ -4,8 +4,9 @@
 set -euo pipefail
 cd "$(dirname "$0")/.."
 
-rt staticlib basin
+rt staticlib basin &
 rt staticlib ledger
+wait $!
 build() {
     gcc -O2 -std=c11 -Wall -Wextra -Werror -Iinclude "examples/$1.c" target/staticlib/libbasin.a target/staticlib/libledger.a -o "target/$1_c"
 }

@@ -14,23 +14,23 @@ use Rattle.rules.specs.Theorems.{mostDue}
 
 -- ---- its places
 
--- 0: next m
+-- the first: the month of the year that comes next
 abbrev pub monthAt : List ℕ → ℕ
 monthAt l = getD l 0 0
 
--- 1–8: storages
+-- then a storage for each of up to eight reservoirs
 abbrev pub storageAt : List ℕ → ℕ → ℕ
 storageAt l v = getD l (1 + v) 0
 
--- 9: filled marks, bit v for reservoir v
+-- a word of one-fill marks, with reservoir v's as bit v
 abbrev pub marksAt : List ℕ → ℕ
 marksAt l = getD l 9 0
 
--- 10–265: water taken this year by right
+-- for each of up to 256 rights, what it has stored since October
 abbrev pub takenAt : List ℕ → ℕ → ℕ
 takenAt l i = getD l (10 + i) 0
 
--- 266 + 11 × row + (k − 1): the return due there k months after the last finished month, k = 1–11
+-- for each of up to 64 rows eleven returns on their way: the one that arrives k months from now, k counted from 1
 abbrev pub dueAt : List ℕ → ℕ → ℕ → ℕ
 dueAt l w k = getD l (266 + 11 * w + (k - 1)) 0
 
@@ -51,7 +51,7 @@ unfoldable pub wordOf : List Bool → ℕ
 wordOf [] = 0
 wordOf (t ∷ ts) = only t 1 + 2 * wordOf ts
 
--- the number at place p, of what is carried and of what is due at a row at k; places without a reservoir, right or row are 0
+-- the number at place p, of what is carried and of what is due at a row at k; where the basin has nothing to tell it is 0
 unfoldable pub placeOf : Basin → Carried → (ℕ → ℕ → ℕ) → ℕ → ℕ
 placeOf b c due p =
     cond (eqb p 0) (c .m)

@@ -43,7 +43,7 @@ unless false n = some (record { number = n; place = 0 })
 abbrev pub boardFits : List ℕ → Bool
 boardFits board = eqb (length board) 970
 
--- 6: runoff not one to a station, board not 970, report too short
+-- the lengths that refusal 6 is about: a runoff for each station, a whole board, a report with room for all numbers
 unfoldable pub listsFit : Basin → List ℕ → List ℕ → List ℕ → Bool
 listsFit b runoff board report = eqb (length runoff) (rows b) and leb (reportLength b) (length report) and boardFits board
 
@@ -99,7 +99,7 @@ stockOf f board = stockSettled (stockRefusal f board) f board
 unfoldable pub runOf : Basin → List ℕ → List ℕ → MonthRun
 runOf b runoff board = month b (carriedOf b board) runoff (tab (rows b) (λ w. dueAt board w 1))
 
--- The dues move one month nearer, those used are gone and k = 11 is 0; then the month's grants add theirs.
+-- What was on its way at k + 1 is now at k, and what arrived is used up; to this the month's grants add what they return.
 unfoldable pub dueAfter : Basin → MonthRun → List ℕ → ℕ → ℕ → ℕ
 dueAfter b h board w k = only (ltb k 11) (dueAt board w (suc k)) + returnsAt b (h .turns) w k
 

@@ -18,7 +18,7 @@ noGrant = record { fromRiver = 0; fromStorage = 0; reason = met; stations = [] }
 abbrev pub grantAt : MonthRun → ℕ → Grant
 grantAt h i = getD (grantsOf (h .turns)) i noGrant
 
--- per right: river part, reservoir part, reason, station number
+-- the four numbers of a right: its two amounts, the reason's number, the station named
 unfoldable pub grantNumber : Grant → ℕ → ℕ → ℕ
 grantNumber g station q = cond (eqb q 0) (g .fromRiver) (cond (eqb q 1) (g .fromStorage) (cond (eqb q 2) (reasonNumber (g .reason)) station))
 

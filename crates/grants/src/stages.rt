@@ -143,7 +143,8 @@ fn power(v: u64) -> u64
     1 << v
 }
 
-// A project right takes what the river did not give from storage, as far as it lasts. Nothing taken is no work. The release raises the flow from the reservoir's row to just above the right's row.
+// What the river did not give a project right it draws from storage, at most all that is stored. Nothing drawn is no work. The release is
+// flow at the reservoir's row and further down, but no longer at the right's.
 pub fn draw(
     below: &[u8; 64],
     reservoirs: &[u8],

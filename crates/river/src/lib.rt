@@ -95,7 +95,7 @@ fn look_down(
     look_down(below, short, available, next, lowest)
 }
 
-// The first row of a short right on the path; where there is none, the first row with the lowest available flow, `low` being the lowest so far.
+// The first row down the path at which a right is short; where there is none, the first row with the lowest available flow, `low` being the lowest so far.
 pub fn look(
     below: &[u8; 64],
     short: &[bool; 64],

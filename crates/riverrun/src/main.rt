@@ -28,7 +28,7 @@ fn read_basin(path: &[u8], buf: &mut [u8]) -> usize
     filled.count
 }
 
-// The listing of a basin. Answers whether it could be written. A file of months that can't be opened counts as empty.
+// The listing of a basin. Answers whether it could be written. Months that can't be opened are listed as none.
 fn list_months(file: &[u8], months: &[u8]) -> bool {
     let mut board = [0u64; 970];
     let mut out = io::large_buffer();
