@@ -4,9 +4,8 @@
 set -euo pipefail
 cd "$(dirname "$0")/.."
 
-rt staticlib basin &
+rt staticlib basin
 rt staticlib ledger
-wait $!
 build() {
     gcc -O2 -std=c11 -Wall -Wextra -Werror -Iinclude "examples/$1.c" target/staticlib/libbasin.a target/staticlib/libledger.a -o "target/$1_c"
 }
@@ -28,7 +27,8 @@ fi
 native() {
     cargo "$1" --release --offline --quiet --manifest-path tests/Cargo.toml --features native "${@:2}"
 }
-native test --test by_hand --test october --test outside
+# All tests, those worked out by hand through the library too. Built once, with the libraries, since a second build costs more than the tests.
+native test
 
 said=$(mktemp)
 trap 'rm -f "$said"' EXIT
