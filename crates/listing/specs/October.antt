@@ -1,7 +1,8 @@
--- 01's "One October, whole" as a listing of two files, byte by byte, and the text of three numbers.
+-- 01's "One October, whole" as a listing of two files, byte by byte; listings that end at once; and the text of three numbers.
 use mathlib.Core.List.{List, [], _∷_, _++_}
 use mathlib.Core.Path.{_≡_}
-use Prim.Native.Nat.{ℕ}
+use Prim.Native.Nat.{ℕ, _+_}
+use lib.ListN.{getD, take}
 use Rattle.basin.specs.October.{octoberFile}
 use Rattle.listing.specs.Listing.{decimalText}
 use Rattle.listing.specs.Run.{listingOf, ListingNames}
@@ -11,7 +12,7 @@ abbrev pub octoberMonths : List ℕ
 octoberMonths = 208 ∷ 7 ∷ 0 ∷ 0 ∷ 188 ∷ 2 ∷ 0 ∷ 0 ∷ 44 ∷ 1 ∷ 0 ∷ 0 ∷ []
 
 -- MONTH PERMIT RIVER STORE WHY AT
-abbrev headLine : List ℕ
+abbrev pub headLine : List ℕ
 headLine =
     77 ∷ 79 ∷ 78 ∷ 84 ∷ 72 ∷ 32 ∷ 80 ∷ 69 ∷ 82 ∷ 77 ∷ 73 ∷ 84 ∷ 32 ∷ 82 ∷ 73 ∷ 86 ∷ 69 ∷ 82 ∷ 32 ∷ 83 ∷ 84 ∷ 79 ∷ 82 ∷ 69 ∷ 32 ∷ 87 ∷ 72 ∷ 89 ∷ 32 ∷ 65 ∷ 84 ∷ 10 ∷ []
 
@@ -42,9 +43,28 @@ sixthLine = 48 ∷ 32 ∷ 101 ∷ 110 ∷ 100 ∷ 32 ∷ 48 ∷ 32 ∷ 53 ∷ 48
 abbrev pub sevenLines : List ℕ
 sevenLines = headLine ++ firstLine ++ secondLine ++ thirdLine ++ fourthLine ++ fifthLine ++ sixthLine
 
+-- the stations that it names: 300 for permit 13, 100 for permit 15
+abbrev pub octoberNames : ℕ → ℕ → ℕ
+octoberNames month right = getD (0 ∷ 0 ∷ 300 ∷ 0 ∷ 100 ∷ []) right 0
+
+-- a sheet with 1,000,000,001 at row 1
+abbrev pub overMonths : List ℕ
+overMonths = 208 ∷ 7 ∷ 0 ∷ 0 ∷ 1 ∷ 202 ∷ 154 ∷ 59 ∷ 44 ∷ 1 ∷ 0 ∷ 0 ∷ []
+
+-- refused 1 0, refused 6 0, refused 8 1
+abbrev pub refusedLine : ℕ → ℕ → List ℕ
+refusedLine number place = 114 ∷ 101 ∷ 102 ∷ 117 ∷ 115 ∷ 101 ∷ 100 ∷ 32 ∷ (48 + number) ∷ 32 ∷ (48 + place) ∷ 10 ∷ []
+
 pub record Listed : Type 0 where
   pub zero : decimalText 0 ≡ 48 ∷ []
   pub ten : decimalText 10 ≡ 49 ∷ 48 ∷ []
   pub fifteen-hundred : decimalText 1500 ≡ 49 ∷ 53 ∷ 48 ∷ 48 ∷ []
   -- whatever stations are named among those that may be, since each of this October's grants leaves one
   pub october : (names : ℕ → ℕ → ℕ) → ListingNames octoberFile octoberMonths names → listingOf octoberFile octoberMonths names ≡ sevenLines
+  -- and such there are
+  pub named : ListingNames octoberFile octoberMonths octoberNames
+  -- no months; a sheet without its last byte; a sheet over its limit; no basin, whatever the months
+  pub no-months : (names : ℕ → ℕ → ℕ) → listingOf octoberFile [] names ≡ headLine
+  pub cut-short : (names : ℕ → ℕ → ℕ) → listingOf octoberFile (take 11 octoberMonths) names ≡ headLine ++ refusedLine 6 0
+  pub over : (names : ℕ → ℕ → ℕ) → listingOf octoberFile overMonths names ≡ headLine ++ refusedLine 8 1
+  pub no-basin : (months : List ℕ) (names : ℕ → ℕ → ℕ) → listingOf [] months names ≡ headLine ++ refusedLine 1 0

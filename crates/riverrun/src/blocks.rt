@@ -38,6 +38,7 @@ fn read_block(fd: i32, path: &[u8], size: usize, block: &mut [u8]) -> usize
     if n % size != 0 {
         return n;
     }
+    // No read is made of a full block, so none fails there.
     if n == block.len() {
         return n;
     }
