@@ -14,9 +14,9 @@ use Rattle.boards.specs.Calls.{fileRefusal, orElse, unless, freshRefusal, fresh
 use Rattle.calls.specs.Answers.{settled}
 use Rattle.calls.proofs.Answers.{accepted-of, no-refusal, settled-some}
 use Rattle.listing.specs.Listing.{refusalLine, header}
-use Rattle.listing.specs.Putting.{Put}
+use Rattle.lines.specs.Putting.{Put}
 use Rattle.listing.specs.Run.{Step, begin}
-use Rattle.listing.proofs.Texts.{text-then}
+use Rattle.lines.proofs.Texts.{text-then}
 use Rattle.lister.specs.Lister.{opening, Opened}
 
 or-none : (v : Option Answer) → orElse v none ≡ v

@@ -11,7 +11,7 @@ use Rattle.rules.specs.Basin.{Basin, rows}
 use Rattle.records.specs.Records.{basinOf}
 use Rattle.boards.specs.Board.{possible}
 use Rattle.basin.proofs.Accepted.{accepted-facts}
-use Rattle.listing.specs.Putting.{mostText}
+use Rattle.lines.specs.Putting.{mostText}
 use Rattle.listing.specs.Run.{sheetBytes, Step}
 use Rattle.listing.specs.Steps.{StepMeets, Place, Made, after, Walk, textsOf}
 use Rattle.listing.proofs.Blocks.{walk-join, texts-join}

@@ -22,7 +22,7 @@ use Rattle.boards.proofs.Bounds.{bounded}
 use Rattle.steps.specs.Steps.{CanGoOn, WentOn}
 use Rattle.monthrun.proofs.Going.{still-possible, losses-told}
 use Rattle.listing.specs.Listing.{monthText, refusalLine}
-use Rattle.listing.specs.Putting.{mostText, CanList, Put}
+use Rattle.lines.specs.Putting.{mostText, CanList, Put}
 use Rattle.listing.specs.Run.{sheetOf, sheetBytes, Step}
 use Rattle.listing.specs.Steps.{StepMeets}
 use Rattle.lister.specs.declared.Progress.{Progress}

@@ -13,7 +13,7 @@ use Rattle.records.specs.Records.{basinOf}
 use Rattle.boards.specs.Board.{possible}
 use Rattle.boards.specs.Calls.{fileRefusal}
 use Rattle.listing.specs.Listing.{refusalLine, header}
-use Rattle.listing.specs.Putting.{mostText, Put}
+use Rattle.lines.specs.Putting.{mostText, Put}
 use Rattle.listing.specs.Run.{sheetBytes, Standing, Step, begin}
 use Rattle.listing.specs.Steps.{StepMeets, Place, Walk, textsOf}
 use Rattle.lister.specs.declared.Progress.{Progress}

@@ -11,7 +11,7 @@ use crate::Progress;
 use crate::sheets::list_part;
 use layout::contents::STATIONS;
 use layout::contents::section;
-use listing::month::MOST_TEXT;
+use lines::month::MOST_TEXT;
 
 // The whole sheets of a block, until one ends the listing or the next month's text might not fit.
 fn list_sheets(

@@ -5,8 +5,8 @@ ghost use lib.ListN.{length};
 ghost use Rattle.lister.specs.Lister.{Opened};
 use crate::Progress;
 use calls::fresh::fresh;
-use listing::frame::put_header;
-use listing::frame::put_refusal;
+use lines::frame::put_header;
+use lines::frame::put_refusal;
 
 pub fn open_listing(file: &[u8], board: &mut [u64], out: &mut [u8]) -> Progress
     requires { ⌜ (length (now board) ≡ 970) × (82 ≤ length (now out)) ⌝ }

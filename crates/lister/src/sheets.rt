@@ -5,7 +5,7 @@ ghost use lib.ListN.{length};
 ghost use Rattle.rules.specs.Basin.{rows};
 ghost use Rattle.records.specs.Records.{basinOf};
 ghost use Rattle.listing.specs.Run.{sheetOf, sheetBytes};
-ghost use Rattle.listing.specs.Putting.{mostText};
+ghost use Rattle.lines.specs.Putting.{mostText};
 ghost use Rattle.lister.specs.Lister.{CanStep, Stepped, Refused};
 use crate::Progress;
 use calls::answer::LISTS;
@@ -15,8 +15,8 @@ use layout::contents::RESERVOIRS;
 use layout::contents::RIGHTS;
 use layout::contents::STATIONS;
 use layout::contents::section;
-use listing::frame::put_refusal;
-use listing::month::put_month;
+use lines::frame::put_refusal;
+use lines::month::put_month;
 use monthrun::month::go_on;
 
 // A sheet's bytes as its numbers.

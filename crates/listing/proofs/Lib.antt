@@ -1,5 +1,3 @@
-pub mod Decimals
-pub mod Texts
 pub mod Steps
 pub mod Blocks
 pub mod October

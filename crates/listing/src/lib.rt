@@ -1,4 +1,1 @@
-// The text of a listing, put into a lent list of bytes; specs/Run has the listing of two files as a definition.
-pub mod frame;
-pub mod month;
-pub mod words;
+// The listing of two files as a definition, with its theorems: specs/ and proofs/. It has no code; `lines` puts its text, `lister` makes its steps.

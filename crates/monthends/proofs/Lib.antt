@@ -1,3 +1,4 @@
+pub mod Sending
 pub mod Openings
 pub mod OpenedBoard
 pub mod Evaporating

@@ -20,7 +20,7 @@ use Rattle.boards.specs.Calls.{fileRefusal}
 use Rattle.calls.specs.Answers.{settled}
 use Rattle.calls.proofs.Answers.{accepted-of}
 use Rattle.ledger.proofs.Tally.{fresh-can}
-use Rattle.listing.specs.Putting.{mostText}
+use Rattle.lines.specs.Putting.{mostText}
 use Rattle.listing.specs.Run.{sheetBytes, Step, begin}
 use Rattle.lister.specs.declared.Progress.{Progress}
 use Rattle.lister.specs.declared.Listed.{Listed}

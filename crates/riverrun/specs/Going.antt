@@ -9,7 +9,7 @@ use Rattle.basin.specs.declared.Verdict.the-variants.{Accepted}
 use Rattle.basin.specs.Check.{checkOf}
 use Rattle.records.specs.Records.{basinOf}
 use Rattle.boards.specs.Board.{possible}
-use Rattle.listing.specs.Putting.{mostText}
+use Rattle.lines.specs.Putting.{mostText}
 use Rattle.listing.specs.Run.{sheetBytes}
 use Rattle.lister.specs.declared.Progress.{Progress}
 

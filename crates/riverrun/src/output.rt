@@ -1,10 +1,10 @@
 // Standard output.
 ghost use Prim.Native.Nat.{_+_, _≤_};
 ghost use lib.ListN.{length};
-ghost use Rattle.listing.specs.Putting.{mostText};
+ghost use Rattle.lines.specs.Putting.{mostText};
 use files::send;
 use libc::STDOUT_FILENO;
-use listing::month::MOST_TEXT;
+use lines::month::MOST_TEXT;
 
 // Writes a text. Where it can't be written the reason goes to standard error.
 pub fn write(text: &[u8]) -> bool {

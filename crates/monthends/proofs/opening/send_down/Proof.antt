@@ -5,7 +5,7 @@ use native.Mathlib.Omega.{arith}
 use lib.ListN.{getD}
 use denote.Ref.{now}
 use Rattle.records.proofs.Table.{walk-on}
-use Rattle.monthends.proofs.Openings.{next-still, sent-on, sent-last}
+use Rattle.monthends.proofs.Sending.{next-still, sent-on, sent-last}
 use borrow.Author.Needs.{needs}
 use Rattle.monthends.proofs.opening.send_down.Statement.{statement}
 use Rattle.monthends.proofs.opening.send_down.Tie as tie
