@@ -1,3 +1,4 @@
 pub mod Board
 pub mod Bounds
 pub mod Bodies
+pub mod Names

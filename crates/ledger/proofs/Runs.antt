@@ -3,66 +3,45 @@ use mathlib.Core.Path.{_≡_, refl, sym, ap, subst}
 use mathlib.Core.Bool.{true}
 use mathlib.Core.List.{List, [], _∷_, map}
 use mathlib.Core.Option.{Option, none, some}
-use Prim.Native.Nat.{ℕ, zero, suc, _<_}
-use native.Mathlib.Omega.{arith}
-use lib.ListN.{length, getD}
-use Rattle.general.specs.Tables.{tab, All}
+use Prim.Native.Nat.{ℕ}
 use Rattle.general.specs.Tests.{has}
-use Rattle.rules.specs.Basin.{Basin, rows}
-use Rattle.rules.specs.Turn.{Turn}
-use Rattle.rules.specs.Month.{grantsOf, MonthRun, month, shortCount}
+use Rattle.rules.specs.Month.{MonthRun, shortCount}
 use Rattle.rules.specs.Tally.{Answer}
 use Rattle.rules.specs.Accepted.{Accepted}
-use Rattle.rules.proofs.Months.{month-length}
-use Rattle.rules.proofs.Names.{firstOf, Named, TurnNamed, month-named}
 use Rattle.records.specs.Records.{basinOf}
-use Rattle.boards.specs.Board.{dueAt, carriedOf}
-use Rattle.boards.specs.Report.{noGrant, grantAt, reportOf, nameIn}
+use Rattle.boards.specs.Report.{grantAt, reportOf, nameIn}
+use Rattle.boards.proofs.Names.{firstNames, run-named}
 use Rattle.boards.specs.Calls.{monthRefusal, runOf, boardAfter, monthSettled, monthOf, NamesAllowed, MonthMeets}
 use Rattle.ledger.specs.Account.{Event, Run}
 use Rattle.monthrun.proofs.Report.{name-place, report-same}
-use Rattle.rules.specs.Tally as tally
-
-grant-named : (ts : List Turn) (i : ℕ) → All TurnNamed ts → i < length ts → Named ((getD (grantsOf ts) i noGrant) .stations)
-grant-named [] i h l = absurd (omega arith)
-grant-named (t ∷ ts) zero h l = h .0
-grant-named (t ∷ ts) (suc i) h l = grant-named ts i (h .1) (omega arith)
 
 module _ (f : List ℕ) (acc : Accepted (basinOf f)) (runoff board report : List ℕ) where
-  firstNames : ℕ → ℕ
-  firstNames i = firstOf ((grantAt (runOf (basinOf f) runoff board) i) .stations)
-
-  run-named : (i : ℕ) → i < length ((basinOf f) .rights) → has (firstNames i) ((grantAt (runOf (basinOf f) runoff board) i) .stations) ≡ true
-  unfolding firstNames runOf
-  run-named i l =
-      let b : Basin = basinOf f in
-      let due : List ℕ = tab (rows b) (λ w. dueAt board w 1) in
-      let h : MonthRun = month b (carriedOf b board) runoff due in
-      grant-named (h .turns) i (month-named b acc (carriedOf b board) runoff due) (rw (month-length b (carriedOf b board) runoff due) l)
+  abbrev names : ℕ → ℕ
+  names = firstNames (basinOf f) acc runoff board
 
   engine-equation : (v : Option Answer)
-      → monthSettled v (basinOf f) runoff board report firstNames ≡ monthSettled v (basinOf f) runoff board report (nameIn ((monthSettled v (basinOf f) runoff board report firstNames) .report))
+      → monthSettled v (basinOf f) runoff board report names ≡ monthSettled v (basinOf f) runoff board report (nameIn ((monthSettled v (basinOf f) runoff board report names) .report))
   unfolding monthSettled
   engine-equation none =
       let h : MonthRun = runOf (basinOf f) runoff board in
       ap (λ (x : List ℕ). record { answer = record { number = 0; place = shortCount (h .turns) }; board = boardAfter (basinOf f) runoff board; report = x })
-      (report-same (basinOf f) h firstNames (nameIn (reportOf (basinOf f) h firstNames report)) report (λ i l. sym (name-place (basinOf f) h firstNames report i l)))
+      (report-same (basinOf f) h names (nameIn (reportOf (basinOf f) h names report)) report (λ i l. sym (name-place (basinOf f) h names report i l)))
   engine-equation (some a) = refl
 
-  engine-names : (v : Option Answer) → NamesAllowed v (basinOf f) (runOf (basinOf f) runoff board) (nameIn ((monthSettled v (basinOf f) runoff board report firstNames) .report))
+  engine-names : (v : Option Answer) → NamesAllowed v (basinOf f) (runOf (basinOf f) runoff board) (nameIn ((monthSettled v (basinOf f) runoff board report names) .report))
   unfolding monthSettled
   engine-names none = λ i l.
       let h : MonthRun = runOf (basinOf f) runoff board in
-      subst (λ (x : ℕ). has x ((grantAt h i) .stations) ≡ true) (sym (name-place (basinOf f) h firstNames report i l)) (run-named i l)
+      subst (λ (x : ℕ). has x ((grantAt h i) .stations) ≡ true) (sym (name-place (basinOf f) h names report i l)) (run-named (basinOf f) acc runoff board i l)
   engine-names (some a) = tt
 
-  engine-meets : MonthMeets f runoff board report (monthOf f runoff board report firstNames)
+  engine-meets : MonthMeets f runoff board report (monthOf f runoff board report names)
   unfolding monthOf
   engine-meets = record { equation = engine-equation (monthRefusal f runoff board report); names = engine-names (monthRefusal f runoff board report) }
 
 pub run-exists : (f : List ℕ) → Accepted (basinOf f) → (board : List ℕ) (cs : List (List ℕ × List ℕ)) → (es : List Event) × (map (λ (e : Event). (e .runoff, e .report)) es ≡ cs) × Run f board es
 run-exists f acc board [] = ([], refl, tt)
 run-exists f acc board (c ∷ cs) =
-    let e : Event = record { runoff = c .0; report = c .1; outcome = monthOf f (c .0) board (c .1) (firstNames f acc (c .0) board (c .1)) } in
+    let e : Event = record { runoff = c .0; report = c .1; outcome = monthOf f (c .0) board (c .1) (firstNames (basinOf f) acc (c .0) board) } in
     let rest : (es : List Event) × (map (λ (x : Event). (x .runoff, x .report)) es ≡ cs) × Run f ((e .outcome) .board) es = run-exists f acc ((e .outcome) .board) cs in
     (e ∷ rest .0, ap (λ (l : List (List ℕ × List ℕ)). c ∷ l) (rest .1), (engine-meets f acc (c .0) board (c .1), rest .2))

@@ -33,7 +33,7 @@ unfolding stepOf
 lent-some b s part names h e = absurd-bool h (ap (λ (p : List ℕ). (stepOf b s p names) .more) e)
 
 -- names for the next month, and for those after it
-first-then : (ℕ → ℕ) → (ℕ → ℕ → ℕ) → ℕ → ℕ → ℕ
+unfoldable pub first-then : (ℕ → ℕ) → (ℕ → ℕ → ℕ) → ℕ → ℕ → ℕ
 first-then n ns zero = n
 first-then n ns (suc j) = ns j
 

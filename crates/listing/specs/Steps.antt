@@ -1,5 +1,5 @@
 -- The steps of a program that lists: what each promises, and that their texts, one after another, are the listing, however the months file is
--- cut into blocks when it is read. proofs/Steps and proofs/Blocks prove it.
+-- cut into blocks when it is read. proofs/Steps, proofs/Blocks and proofs/Nameable prove it.
 use mathlib.Core.Bool.{Bool, true, false}
 use mathlib.Core.List.{List, [], _∷_, _++_}
 use mathlib.Core.Option.{some}
@@ -101,6 +101,10 @@ StepsList = (f months : List ℕ) → checkOf f ≡ Accepted → (os : List Step
 abbrev pub CallsList : Type 0
 CallsList = (f months : List ℕ) → checkOf f ≡ Accepted → (cs : List (Call × List ℕ)) (to : Place) → Calls (basinOf f) (start f months) cs to → to .more ≡ false
     → IsListing f months (header ++ textsOf (stepsOf cs))
+
+-- There is one: of an accepted file and any months, with stations that may be named.
+abbrev pub HasListing : Type 0
+HasListing = (f months : List ℕ) → checkOf f ≡ Accepted → (text : List ℕ) × IsListing f months text
 
 -- Of a file that is turned down: the header and the refusal are.
 abbrev pub RefusalLists : Type 0
