@@ -8,8 +8,7 @@ use lib.ListN.{length, getD, take, set, length-set}
 use lib.Seq.{take-suc, take-suc-set, take-length}
 use Rattle.general.specs.Sums.{sumTo}
 use Rattle.layout.specs.Bytes.{le32At}
-use Rattle.rules.specs.Basin.{Right, noRight}
-use Rattle.rules.specs.Tally.{Answer}
+use Rattle.rules.specs.Basin.{Right}
 use Rattle.records.specs.Records.{rowsOf, reservoirCount, rightCount, rightRecord, rightOf, rightsOf}
 use Rattle.records.proofs.Decoded.{right-is}
 use Rattle.boards.specs.Board.{storageAt, dueAt, storageSum, dueSum}

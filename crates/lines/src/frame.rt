@@ -1,9 +1,6 @@
 // What stands around the months: the header, and the line of a refusal.
 ghost use Prim.Native.Nat.{_+_, _≤_};
-ghost use mathlib.Core.Path.{_≡_};
-ghost use mathlib.Core.List.{_++_};
-ghost use lib.ListN.{length, take};
-ghost use Rattle.rules.specs.Tally.{Answer};
+ghost use lib.ListN.{length};
 ghost use Rattle.listing.specs.Listing.{refusalLine, header};
 ghost use Rattle.lines.specs.Putting.{Put};
 use crate::words::put_field;

@@ -2,20 +2,18 @@
 use mathlib.Core.Bool.{true, false}
 use mathlib.Core.List.{List, _++_}
 use mathlib.Core.Option.{Option, none, some}
-use mathlib.Core.Path.{_≡_, refl, sym, ap, _∙_}
+use mathlib.Core.Path.{_≡_, refl, ap, _∙_}
 use Prim.Native.Nat.{ℕ}
 use native.Mathlib.Omega.{arith}
 use lib.ListN.{length}
 use Rattle.rules.specs.Tally.{Answer}
-use Rattle.basin.specs.declared.Verdict.the-variants.{Accepted}
-use Rattle.basin.specs.Check.{checkOf}
 use Rattle.records.specs.Records.{basinOf}
 use Rattle.boards.specs.Calls.{fileRefusal, orElse, unless, freshRefusal, freshBoard, Fresh, freshSettled, freshOf}
 use Rattle.calls.specs.Answers.{settled}
 use Rattle.calls.proofs.Answers.{accepted-of, no-refusal, settled-some}
 use Rattle.listing.specs.Listing.{refusalLine, header}
 use Rattle.lines.specs.Putting.{Put}
-use Rattle.listing.specs.Run.{Step, begin}
+use Rattle.listing.specs.Run.{begin}
 use Rattle.lines.proofs.Texts.{text-then}
 use Rattle.lister.specs.Lister.{opening, Opened}
 

@@ -2,18 +2,18 @@
 use mathlib.Core.Bool.{Bool, true, false}
 use mathlib.Core.List.{List, [], _∷_, _++_, append-assoc, append-nil}
 use mathlib.Core.Path.{_≡_, refl, sym, ap, _∙_, subst}
-use Prim.Native.Nat.{ℕ, zero, suc, _+_, _-_, _*_, _≤_, _<_}
+use Prim.Native.Nat.{ℕ, zero, suc, _+_, _-_, _≤_, _<_}
 use native.Mathlib.Omega.{arith}
 use lib.ListN.{length, take, drop, length-drop, drop-of-length-le}
 use lib.Seq.{take-all, drop-drop, length-take-le}
 use Rattle.general.proofs.Tests.{absurd-bool}
-use Rattle.rules.specs.Basin.{Basin, rows}
+use Rattle.rules.specs.Basin.{Basin}
 use Rattle.records.specs.Records.{basinOf}
 use Rattle.boards.specs.Board.{possible}
 use Rattle.basin.proofs.Accepted.{accepted-facts}
 use Rattle.lines.specs.Putting.{mostText}
 use Rattle.listing.specs.Run.{sheetBytes, Step}
-use Rattle.listing.specs.Steps.{StepMeets, Place, Made, after, Walk, textsOf}
+use Rattle.listing.specs.Steps.{StepMeets, Place, after, Walk, textsOf}
 use Rattle.listing.proofs.Blocks.{walk-join, texts-join}
 use Rattle.lister.specs.declared.Progress.{Progress}
 use Rattle.lister.specs.declared.Listed.{Listed}

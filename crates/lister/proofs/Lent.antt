@@ -1,8 +1,7 @@
 -- A whole sheet of an accepted file: what its month is lent, and what its step tells. Assumes nothing.
-use mathlib.Core.Bool.{Bool, true, false}
+use mathlib.Core.Bool.{true, false}
 use mathlib.Core.List.{List, [], append-nil}
-use mathlib.Core.Option.{none, some}
-use mathlib.Core.Path.{_≡_, refl, sym, ap, _∙_, subst}
+use mathlib.Core.Path.{_≡_, sym, ap, _∙_, subst}
 use Prim.Native.Nat.{ℕ, suc, _+_, _*_, _≤_, _<_}
 use native.Mathlib.Numerals.{add-one}
 use native.Mathlib.Omega.{arith}
@@ -11,7 +10,7 @@ use Rattle.rules.specs.Accepted.{Accepted}
 use Rattle.rules.specs.Basin.{Basin, rows}
 use Rattle.rules.specs.Tally.{Answer, reportLength}
 use Rattle.layout.specs.File.{sectionOf}
-use Rattle.records.specs.Records.{rowsOf, reservoirCount, rightCount, basinOf}
+use Rattle.records.specs.Records.{rowsOf, rightCount, basinOf}
 use Rattle.records.proofs.Rows.{rows-are}
 use Rattle.basin.proofs.Accepted.{accepted-facts}
 use Rattle.boards.specs.Board.{possible}

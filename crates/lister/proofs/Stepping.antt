@@ -1,16 +1,15 @@
 -- A step of a listing tells what the rules define. Assumes nothing.
-use mathlib.Core.Bool.{Bool, true, false}
+use mathlib.Core.Bool.{true, false}
 use mathlib.Core.List.{List, [], _∷_, _++_, map}
 use mathlib.Core.Option.{Option, none, some}
 use mathlib.Core.Path.{_≡_, refl, sym, ap, _∙_, subst}
-use Prim.Native.Nat.{ℕ, zero, suc, _+_, _*_, _≤_, _<_}
+use Prim.Native.Nat.{ℕ, zero, suc, _+_, _*_, _<_}
 use native.Mathlib.Omega.{arith}
 use lib.ListN.{length, getD, drop, List·getD-append}
 use Rattle.general.specs.Sums.{sumTo}
 use Rattle.general.specs.Tables.{tab}
 use Rattle.general.proofs.Tests.{eqb-same, eqb-other}
 use Rattle.general.proofs.Tables.{tab-length}
-use Rattle.rules.specs.Accepted.{Accepted}
 use Rattle.rules.specs.Basin.{Right, Basin, noRight, rows}
 use Rattle.rules.specs.Path.{lastRow}
 use Rattle.rules.specs.Month.{MonthRun}
@@ -20,7 +19,7 @@ use Rattle.boards.specs.Report.{reservoirsFrom, rowsFrom, reportPlace, reportOf
 use Rattle.boards.specs.Calls.{orElse, unless, runOf, boardAfter, Outcome, monthSettled, NamesAllowed}
 use Rattle.steps.specs.Steps.{WentOn}
 use Rattle.listing.specs.Listing.{rightLine, rightLines, decimalText, lineOf, endLine, outflowIn, evaporationIn, monthText, refusalLine}
-use Rattle.listing.specs.Run.{sheetOf, sheetBytes, partRefusal, Standing, Step, sheetStep, stepOf, PartNames}
+use Rattle.listing.specs.Run.{sheetOf, sheetBytes, partRefusal, Standing, Step, sheetStep, stepOf}
 use Rattle.listing.specs.Steps.{StepMeets}
 
 -- ---- the text of a month reads only what the report tells

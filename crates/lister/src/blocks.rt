@@ -1,6 +1,6 @@
 // A block of the months file: as many of its parts as there is room for, one after another.
 ghost use mathlib.Core.Path.{_≡_};
-ghost use mathlib.Core.Bool.{false, true};
+ghost use mathlib.Core.Bool.{true};
 ghost use Prim.Native.Nat.{_<_};
 ghost use lib.ListN.{length};
 ghost use Rattle.records.specs.Records.{basinOf};

@@ -4,10 +4,10 @@ use mathlib.Core.List.{List, [], _∷_, _++_, append-assoc, append-nil}
 use mathlib.Core.Path.{_≡_, refl, sym, ap, _∙_, subst}
 use Prim.Native.Nat.{ℕ, _≤_}
 use native.Mathlib.Omega.{arith}
-use lib.ListN.{length, take, drop, length-append}
+use lib.ListN.{length, length-append}
 use lib.Seq.{take-append-le, drop-append-le}
 use Rattle.rules.specs.Basin.{Basin}
-use Rattle.listing.specs.Run.{sheetBytes, Standing, Step}
+use Rattle.listing.specs.Run.{sheetBytes, Step}
 use Rattle.listing.specs.Steps.{StepMeets, Place, Made, after, Walk, textsOf, Call, Called, Calls, stepsOf, CallsList}
 use Rattle.listing.proofs.Steps.{steps-list}
 

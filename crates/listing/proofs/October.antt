@@ -2,11 +2,10 @@
 use mathlib.Core.Path.{_≡_, refl, sym, ap, _∙_, subst}
 use mathlib.Core.Bool.{Bool, true, false, _||_}
 use mathlib.Core.List.{List, [], _∷_, _++_}
-use mathlib.Core.Option.{none}
 use Prim.Native.Nat.{ℕ, zero, suc, _<_}
 use native.Mathlib.Omega.{arith}
 use lib.Dec.{eqb}
-use lib.ListN.{getD, take}
+use lib.ListN.{take}
 use Rattle.general.proofs.Tests.{eq-of}
 use Rattle.general.specs.Sums.{sumOver, sumTo}
 use Rattle.general.specs.Tables.{tab}
@@ -24,7 +23,6 @@ use Rattle.boards.specs.Board.{carriedOf, wordOf, placeOf, boardOf, storageSum,
 use Rattle.boards.specs.Report.{grantAt, grantNumber, levelNumber, reportPlace, reportOf}
 use Rattle.boards.specs.Calls.{orElse, unless, freshBoard, runOf, dueAfter, boardAfter}
 use Rattle.rules.specs.October.{october}
-use Rattle.records.specs.Records.{basinOf}
 use Rattle.basin.specs.October.{octoberFile}
 use Rattle.basin.proofs.October.{october-checked}
 use Rattle.basin.specs.Check.{checkOf}
@@ -32,7 +30,7 @@ use Rattle.layout.specs.File.{layoutOk}
 use Rattle.boards.specs.Calls.{fileRefusal, verdictRefusal}
 use Rattle.calls.proofs.Answers.{no-refusal}
 use Rattle.listing.specs.Listing.{decimalIn, decimalText, lineOf, rightLine, rightLines, endLine, outflowIn, evaporationIn, monthText, refusalLine, header}
-use Rattle.listing.specs.Run.{sheetOf, partRefusal, sheetStep, stepOf, nextStep, stepsText, begin, monthsText, afterHeader, listingOf, NamesFit, ListingNames}
+use Rattle.listing.specs.Run.{sheetOf, partRefusal, sheetStep, stepOf, nextStep, stepsText, begin, monthsText, afterHeader, listingOf, NamesFit}
 use Rattle.listing.specs.October.{octoberMonths, headLine, sevenLines, octoberNames, overMonths, refusedLine, Listed}
 
 -- by the basin that the file describes

@@ -1,16 +1,13 @@
 -- The texts of a run's steps are the listing. Assumes nothing.
 use mathlib.Core.Bool.{Bool, true, false}
 use mathlib.Core.List.{List, [], _∷_, _++_}
-use mathlib.Core.Option.{none, some}
 use mathlib.Core.Path.{_≡_, refl, sym, ap, _∙_, subst}
 use Prim.Native.Nat.{ℕ, zero, suc, _<_, _≤_}
 use native.Mathlib.Omega.{arith}
 use lib.ListN.{length, take, drop}
 use Rattle.general.proofs.Tests.{absurd-bool}
 use Rattle.rules.specs.Basin.{Basin}
-use Rattle.rules.specs.Tally.{Answer}
 use Rattle.records.specs.Records.{basinOf}
-use Rattle.boards.specs.Calls.{fileRefusal}
 use Rattle.calls.proofs.Answers.{no-refusal}
 use Rattle.listing.specs.Listing.{header}
 use Rattle.listing.specs.Run.{sheetBytes, Standing, Step, stepOf, nextStep, stepsText, begin, monthsText, afterHeader, listingOf, IfMore, NamesFit}

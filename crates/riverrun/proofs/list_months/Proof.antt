@@ -1,8 +1,6 @@
 -- `riverrun::list_months` meets its contract. Assumes nothing.
 use mathlib.Core.Path.{sym}
-use native.Mathlib.Omega.{arith}
 use borrow.Author.Tests.{not-false}
-use denote.Ref.{now}
 use lib.Seq.{length-take-le}
 use Rattle.riverrun.proofs.Keeping.{opened-on}
 use borrow.Author.Needs.{needs}

@@ -1,5 +1,4 @@
 -- `lister::blocks::list_rest` meets its contract. Assumes nothing.
-use mathlib.Core.Path.{refl}
 use native.Mathlib.Omega.{arith}
 use denote.Ref.{now}
 use borrow.Author.Tests.{not-false, not-true}

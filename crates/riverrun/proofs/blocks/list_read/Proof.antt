@@ -1,6 +1,5 @@
 -- `riverrun::blocks::list_read` meets its contract. The loop's invariant: the block is listed up to `done`. Assumes nothing.
 use mathlib.Core.Path.{_≡_, refl, sym, _∙_}
-use mathlib.Core.Bool.{true}
 use Prim.Native.Nat.{_-_}
 use native.Mathlib.Omega.{arith}
 use borrow.Author.Needs.{needs}
