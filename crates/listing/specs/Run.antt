@@ -77,7 +77,7 @@ stepsText (suc k) b s rest names =
 unfoldable pub begin : Basin → Standing
 begin b = record { months = 0; board = freshBoard b }
 
--- A sheet has at least four bytes, so no file has as many parts as bytes, and none is left out.
+-- Each step but the last uses up some bytes, so that a file has at most one step more than bytes, and none is left out.
 unfoldable pub monthsText : Basin → List ℕ → (ℕ → ℕ → ℕ) → List ℕ
 monthsText b months names = stepsText (suc (length months)) b (begin b) months names
 
