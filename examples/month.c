@@ -1,99 +1,66 @@
-/* A month of the worked October: its answer, its report and what is stored and due after it; then the same call with one list or number
-   wrong each time, which changes nothing. Board and report lie in memory of just their length, so that a write beyond them is seen. */
+/* river_month: the months of a runoff file, sheet after sheet of one number for each station, from the fresh board. */
+#include <inttypes.h>
 #include <stdio.h>
 #include <stdlib.h>
-#include <string.h>
+#include "read_file.h"
 #include "river.h"
 
-enum { STATIONS = 3, RESERVOIRS = 1, RIGHTS = 5 };
-#define REPORT_LENGTH RIVER_REPORT_LENGTH(RIGHTS, STATIONS, RESERVOIRS)
-
-static uint8_t file[65536];
-static size_t length;
-
-static void read_file(const char *path)
+/* A number of four bytes, the least first. */
+static uint32_t number_at(const uint8_t *bytes)
 {
-    FILE *input = fopen(path, "rb");
-    if (input == NULL) {
-        printf("%s cannot be opened\n", path);
-        exit(1);
+    return bytes[0] | (uint32_t)bytes[1] << 8 | (uint32_t)bytes[2] << 16 | (uint32_t)bytes[3] << 24;
+}
+
+static void print_report(const uint8_t *file, const uint64_t *report)
+{
+    size_t rights = RIVER_RIGHTS(file), stations = RIVER_STATIONS(file), reservoirs = RIVER_RESERVOIRS(file);
+    for (size_t right = 0; right < rights; right++)
+        printf("right %zu: river %" PRIu64 ", storage %" PRIu64 ", reason %" PRIu64 ", station %" PRIu64 "\n", right,
+               report[RIVER_REPORT_FROM_RIVER(right)], report[RIVER_REPORT_FROM_STORAGE(right)],
+               report[RIVER_REPORT_REASON(right)], report[RIVER_REPORT_STATION(right)]);
+    for (size_t row = 0; row < stations; row++)
+        printf("row %zu: flow %" PRIu64 ", available %" PRIu64 "\n", row, report[RIVER_REPORT_FLOW(rights, row)],
+               report[RIVER_REPORT_AVAILABLE(rights, row)]);
+    for (size_t reservoir = 0; reservoir < reservoirs; reservoir++)
+        printf("reservoir %zu: evaporation %" PRIu64 "\n", reservoir,
+               report[RIVER_REPORT_EVAPORATION(rights, stations, reservoir)]);
+}
+
+/* Answers what the first refused call does, or the last call of all. */
+static struct river_answer run_months(const uint8_t *file, size_t length, const uint8_t *months, size_t bytes)
+{
+    uint64_t board[RIVER_BOARD_LENGTH], report[RIVER_REPORT_LONGEST];
+    uint32_t runoff[RIVER_MOST_STATIONS];
+    struct river_answer answer = river_fresh(file, length, board, RIVER_BOARD_LENGTH);
+    for (size_t at = 0; answer.number == RIVER_ACCEPTED && at < bytes;) {
+        /* A last sheet that is cut short is lent as it is, and refused. */
+        size_t stations = 0;
+        for (; stations < RIVER_STATIONS(file) && bytes - at >= 4; stations++, at += 4)
+            runoff[stations] = number_at(months + at);
+        answer = river_month(file, length, runoff, stations, board, RIVER_BOARD_LENGTH, report, RIVER_REPORT_LONGEST);
+        if (answer.number != RIVER_ACCEPTED)
+            break;
+        printf("%" PRIu64 " rights short, next month %" PRIu64 "\n", answer.place, board[RIVER_BOARD_MONTH]);
+        print_report(file, report);
     }
-    length = fread(file, 1, sizeof file, input);
-    fclose(input);
-}
-
-/* Room for some numbers, all 99. */
-static uint64_t *numbers(size_t count)
-{
-    uint64_t *list = malloc(count * sizeof *list);
-    if (list == NULL)
-        exit(1);
-    for (size_t place = 0; place < count; place++)
-        list[place] = 99;
-    return list;
-}
-
-static void print_answer(const char *what, uint64_t answer)
-{
-    printf("%s: %u %u", what, (unsigned)(answer >> 32), (unsigned)(answer & 0xffffffff));
-}
-
-static void print_report(const uint64_t *report)
-{
-    for (int right = 0; right < RIGHTS; right++, report += 4)
-        printf("right %d: river %llu, storage %llu, reason %llu, station %llu\n", right, (unsigned long long)report[0],
-               (unsigned long long)report[1], (unsigned long long)report[2], (unsigned long long)report[3]);
-    for (int row = 0; row < STATIONS; row++, report += 2)
-        printf("row %d: flow %llu, open water %llu\n", row, (unsigned long long)report[0], (unsigned long long)report[1]);
-    for (int reservoir = 0; reservoir < RESERVOIRS; reservoir++)
-        printf("reservoir %d: evaporation %llu\n", reservoir, (unsigned long long)report[reservoir]);
-}
-
-static void print_board(const uint64_t *board)
-{
-    struct river_sums sums = river_stock(file, length, board, RIVER_BOARD_LENGTH);
-    printf("next month %llu, stored %llu, due %llu\n", (unsigned long long)board[0], (unsigned long long)sums.storage,
-           (unsigned long long)sums.due);
-}
-
-/* A call that is to be refused, on a board that is to stay as it is. */
-static void refused(const char *what, const uint32_t *runoff, size_t runoff_length, uint64_t *board, size_t report_length)
-{
-    uint64_t kept[RIVER_BOARD_LENGTH];
-    uint64_t *report = numbers(report_length);
-    uint64_t *blank = numbers(report_length);
-    memcpy(kept, board, sizeof kept);
-    print_answer(what, river_month(file, length, runoff, runoff_length, board, RIVER_BOARD_LENGTH, report, report_length));
-    printf(", board %s", memcmp(board, kept, sizeof kept) == 0 ? "as it was" : "changed");
-    printf(", report %s\n", memcmp(report, blank, report_length * sizeof *report) == 0 ? "as it was" : "changed");
-    free(report);
-    free(blank);
+    return answer;
 }
 
 int main(int count, char **names)
 {
-    const uint32_t runoff[STATIONS] = {2000, 700, 300};
-    const uint32_t flood[STATIONS] = {1000000000, 1000000001, 4294967295};
-    if (count != 2)
+    if (count != 3) {
+        fprintf(stderr, "usage: %s BASIN MONTHS\n", names[0]);
+        return 2;
+    }
+    size_t length, bytes;
+    uint8_t *file = read_file(names[1], &length);
+    uint8_t *months = read_file(names[2], &bytes);
+    if (file == NULL || months == NULL)
         return 1;
-    read_file(names[1]);
-    uint64_t *board = numbers(RIVER_BOARD_LENGTH);
-    uint64_t *report = numbers(REPORT_LENGTH);
-    print_answer("fresh", river_fresh(file, length, board, RIVER_BOARD_LENGTH));
-    print_answer("\nOctober", river_month(file, length, runoff, STATIONS, board, RIVER_BOARD_LENGTH, report, REPORT_LENGTH));
-    printf("\n");
-    print_report(report);
-    print_board(board);
-    print_answer("no file", river_month(NULL, 0, NULL, 0, NULL, 0, NULL, 0));
-    print_answer("\nno board", river_month(file, length, runoff, STATIONS, NULL, 0, report, REPORT_LENGTH));
-    printf("\n");
-    refused("runoff too short", runoff, STATIONS - 1, board, REPORT_LENGTH);
-    refused("report too short", runoff, STATIONS, board, REPORT_LENGTH - 1);
-    refused("runoff over its limit", flood, STATIONS, board, REPORT_LENGTH);
-    board[0] = 12;
-    refused("board in month 12", runoff, STATIONS, board, REPORT_LENGTH);
-    refused("the same, runoff over its limit", flood, STATIONS, board, REPORT_LENGTH);
-    free(board);
-    free(report);
-    return 0;
+    struct river_answer answer = run_months(file, length, months, bytes);
+    if (answer.number != RIVER_ACCEPTED)
+        printf("refused %" PRIu64 " %" PRIu64 "\n", answer.number, answer.place);
+    free(file);
+    free(months);
+    return answer.number != RIVER_ACCEPTED;
 }

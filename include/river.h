@@ -1,4 +1,10 @@
-/* The river ledger's calls, for C. A list is passed as a pointer and its length. */
+/* The river ledger's calls, for C and C++. All of them are in libledger.a.
+
+   A list is lent as a pointer and a length. Any bytes and any numbers may stand in it; an empty list may have a null
+   pointer. The lists of one call must not overlap: what is promised of a call is promised for lists that lie apart.
+
+   Volumes are hundredths of an acre-foot. Months go from 0, which is October, to 11. Stations, reservoirs, patterns and
+   rights are counted from 0 in the order of the file, and a station's place in it is its row. */
 #ifndef RIVER_H
 #define RIVER_H
 
@@ -9,40 +15,121 @@
 extern "C" {
 #endif
 
-/* Checks the bytes of a basin file, whatever they are.
-   0: accepted; 1: layout; 2: a station rule; 3: a reservoir rule; 4: a pattern rule; 5: a right rule. */
-uint32_t river_check(const uint8_t *file, size_t length);
+/* ---- What the calls answer ---- */
 
-/* The same number times 4294967296, plus the first record at fault, counted from 0. */
-uint64_t river_check_place(const uint8_t *file, size_t length);
+struct river_answer {
+    uint64_t number; /* a river_refusal */
+    uint64_t place;
+};
 
-/* The numbers of a board. */
-#define RIVER_BOARD_LENGTH 970
-
-/* Writes the fresh board of a basin: its starting storages, nothing taken, nothing due. Answers 0, or the number of a refusal times
-   4294967296, plus its place; then the board is as it was. 1 to 5: the file, as above; 6: the board's length. */
-uint64_t river_fresh(const uint8_t *file, size_t length, uint64_t *board, size_t board_length);
-
-/* All water stored and all water on its way back, in a board of the basin. */
 struct river_sums {
-    uint32_t number; /* 0, or a refusal: 1 to 5 the file, 6 the board's length, 7 a board that no run of months can leave */
-    uint32_t place;
-    uint64_t storage; /* 0 where the board is refused */
+    uint64_t number;
+    uint64_t place;
+    uint64_t storage; /* both sums are 0 where the call is refused */
     uint64_t due;
 };
 
+/* The numbers, and the place that goes with each. Of several that apply the lowest is answered. A refused call writes
+   nothing. */
+enum river_refusal {
+    RIVER_ACCEPTED = 0,      /* place 0; of a month, how many rights are short */
+    RIVER_BAD_LAYOUT = 1,    /* place 0: a file cut short, a count out of range, parts that do not lie end to end */
+    RIVER_BAD_STATION = 2,   /* the first row at fault */
+    RIVER_BAD_RESERVOIR = 3, /* the first reservoir at fault */
+    RIVER_BAD_PATTERN = 4,   /* the first delay pattern at fault */
+    RIVER_BAD_RIGHT = 5,     /* the first right at fault */
+    RIVER_BAD_LENGTH = 6,    /* place 0: runoff not one to a station, a board of another length, a report too short */
+    RIVER_BAD_BOARD = 7,     /* place 0: a board that no run of months can leave */
+    RIVER_BAD_RUNOFF = 8     /* the first row whose runoff is above RIVER_MOST_RUNOFF */
+};
+
+/* ---- How many records a file has, and the most of each, and of runoff ---- */
+
+/* Only for a file that was accepted. */
+#define RIVER_STATIONS(file) ((size_t)(file)[4])
+#define RIVER_RESERVOIRS(file) ((size_t)(file)[12])
+#define RIVER_RIGHTS(file) ((size_t)(file)[28] + 256 * (size_t)(file)[29])
+
+#define RIVER_MOST_STATIONS 64
+#define RIVER_MOST_RESERVOIRS 8
+#define RIVER_MOST_RIGHTS 256
+#define RIVER_MOST_RUNOFF 1000000000 /* at a row in a month */
+
+/* ---- The places of a board, which is all that one month hands to the next ---- */
+
+#define RIVER_BOARD_LENGTH 970
+#define RIVER_BOARD_MONTH 0                                      /* the month to be run next */
+#define RIVER_BOARD_STORAGE(reservoir) (1 + (size_t)(reservoir)) /* 1 to 8: what it holds */
+#define RIVER_BOARD_MARKS 9                                      /* bit v: reservoir v was filled since October */
+#define RIVER_BOARD_TAKEN(right) (10 + (size_t)(right))          /* 10 to 265: what it has stored since October */
+/* 266 to 969, eleven for each row: what returns there in the month to be run next, k = 1, and in the ten after it, k = 2
+   to 11. */
+#define RIVER_BOARD_DUE(row, k) (266 + 11 * (size_t)(row) + ((size_t)(k) - 1))
+
+/* ---- The places of a report; `rights` and `stations` are how many there are ---- */
+
+/* Four for each right: granted from the river, granted from storage, the reason, the number of the station it names. */
+#define RIVER_REPORT_FROM_RIVER(right) (4 * (size_t)(right))
+#define RIVER_REPORT_FROM_STORAGE(right) (RIVER_REPORT_FROM_RIVER(right) + 1)
+#define RIVER_REPORT_REASON(right) (RIVER_REPORT_FROM_RIVER(right) + 2)
+#define RIVER_REPORT_STATION(right) (RIVER_REPORT_FROM_RIVER(right) + 3)
+/* Then two for each station: the river's flow, and what of it is available to later rights. */
+#define RIVER_REPORT_FLOW(rights, row) (RIVER_REPORT_FROM_RIVER(rights) + 2 * (size_t)(row))
+#define RIVER_REPORT_AVAILABLE(rights, row) (RIVER_REPORT_FLOW(rights, row) + 1)
+/* Then one for each reservoir: what evaporated. */
+#define RIVER_REPORT_EVAPORATION(rights, stations, reservoir) \
+    (RIVER_REPORT_FLOW(rights, stations) + (size_t)(reservoir))
+
+/* A report may be longer than its basin needs; what lies beyond stays as it was. The longest is enough for all. */
+#define RIVER_REPORT_LENGTH(rights, stations, reservoirs) RIVER_REPORT_EVAPORATION(rights, stations, reservoirs)
+#define RIVER_REPORT_LONGEST RIVER_REPORT_LENGTH(RIVER_MOST_RIGHTS, RIVER_MOST_STATIONS, RIVER_MOST_RESERVOIRS)
+
+/* Why a right has what it has, and the station that is named. */
+enum river_reason {
+    RIVER_NOT_SHORT = 0,  /* it has all it asked for; 0 */
+    RIVER_CALLED = 1,     /* a senior right at its row or downstream is short; the station of such a right */
+    RIVER_RIVER_LOW = 2,  /* the river had no more to give; where, at its row or downstream, the least was available */
+    RIVER_STORAGE_LOW = 3 /* river and reservoir together gave a project right too little; the reservoir's station */
+};
+
+/* ---- The calls ---- */
+
+/* Checks a basin file and answers a number alone, 0 to 5.
+
+       if (river_check(file, length) == RIVER_ACCEPTED)
+           puts("accepted"); */
+uint32_t river_check(const uint8_t *file, size_t length);
+
+/* Checks a basin file and answers number and place.
+
+       struct river_answer answer = river_verdict(file, length);
+       if (answer.number == RIVER_BAD_RIGHT)
+           printf("right %d is at fault\n", (int)answer.place); */
+struct river_answer river_verdict(const uint8_t *file, size_t length);
+
+/* Writes the board on which a basin begins: the storages of the file, nothing taken, nothing due. Refusals 1 to 6.
+
+       uint64_t board[RIVER_BOARD_LENGTH];
+       struct river_answer answer = river_fresh(file, length, board, RIVER_BOARD_LENGTH); */
+struct river_answer river_fresh(const uint8_t *file, size_t length, uint64_t *board, size_t board_length);
+
+/* Runs the next month of a board with one runoff number for each station; writes the board it leaves and its report.
+
+       uint32_t runoff[3] = {2000, 700, 300};
+       uint64_t report[RIVER_REPORT_LONGEST];
+       struct river_answer answer =
+           river_month(file, length, runoff, 3, board, RIVER_BOARD_LENGTH, report, RIVER_REPORT_LONGEST);
+       if (answer.number == RIVER_ACCEPTED && report[RIVER_REPORT_REASON(2)] == RIVER_CALLED)
+           puts("right 2 is called"); */
+struct river_answer river_month(const uint8_t *file, size_t length, const uint32_t *runoff, size_t runoff_length,
+                                uint64_t *board, size_t board_length, uint64_t *report, size_t report_length);
+
+/* Adds up what a board has in storage and what is due, over the whole basin. Refusals 1 to 7.
+
+       struct river_sums sums = river_stock(file, length, board, RIVER_BOARD_LENGTH);
+       if (sums.number == RIVER_ACCEPTED)
+           printf("%llu stored\n", (unsigned long long)sums.storage); */
 struct river_sums river_stock(const uint8_t *file, size_t length, const uint64_t *board, size_t board_length);
-
-/* The numbers of a report: four for each right, two for each station, one for each reservoir. */
-#define RIVER_REPORT_LENGTH(rights, stations, reservoirs) (4 * (size_t)(rights) + 2 * (size_t)(stations) + (size_t)(reservoirs))
-
-/* Runs the next month of a board with one runoff number for each station, and writes the board that the month leaves and its report:
-   for each right what it is granted from the river and from storage, the reason 0 to 3 and the station of the shortage; for each
-   station flow and open water; for each reservoir evaporation. The report may be longer; what lies beyond is as it was.
-   Answers the number of rights short. A refusal is its number times 4294967296, plus its place; then board and report are as they were.
-   1 to 5: the file, as above; 6: the length of a list; 7: the board, as above; 8: a runoff above 1000000000, at the first such station. */
-uint64_t river_month(const uint8_t *file, size_t length, const uint32_t *runoff, size_t runoff_length, uint64_t *board,
-                     size_t board_length, uint64_t *report, size_t report_length);
 
 #ifdef __cplusplus
 }

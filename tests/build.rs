@@ -1,7 +1,6 @@
-//! Links the static libraries of the checked engine, only under feature `native`.
+//! Links the static library of the checked engine, only under feature `native`.
 //!
-//! `RIVER_LIB_DIR` overrides where they lie; by default it is
-//! `../target/staticlib`.
+//! `RIVER_LIB_DIR` overrides where it lies; by default that is `../target/staticlib`.
 
 use std::env;
 use std::path::Path;
@@ -13,10 +12,8 @@ fn main() {
     }
     let here = env::var("CARGO_MANIFEST_DIR").unwrap();
     let directory = env::var("RIVER_LIB_DIR").unwrap_or(format!("{here}/../target/staticlib"));
+    let library = Path::new(&directory).join("libledger.a");
+    println!("cargo:rerun-if-changed={}", library.display());
     println!("cargo:rustc-link-search=native={directory}");
-    for name in ["basin", "ledger"] {
-        let library = Path::new(&directory).join(format!("lib{name}.a"));
-        println!("cargo:rerun-if-changed={}", library.display());
-        println!("cargo:rustc-link-lib=static={name}");
-    }
+    println!("cargo:rustc-link-lib=static=ledger");
 }

@@ -1,33 +1,20 @@
 #!/usr/bin/env bash
-# The static libraries as their callers see them: the C examples, then the numbers worked out by hand and the comparison with the plain Rust
-# engine, then check and month of both timed in one run.
+# The static library as its callers see it: the examples in C, C++ and Rust, then the numbers worked out by hand and the
+# comparison with the plain Rust engine, then check and month of both timed in one run. RIVER_LIB_DIR names the folder
+# of a libledger.a that is there already; without it the library is proved and built first.
 set -euo pipefail
 cd "$(dirname "$0")/.."
 
-rt staticlib basin
-rt staticlib ledger
-build() {
-    gcc -O2 -std=c11 -Wall -Wextra -Werror -Iinclude "examples/$1.c" target/staticlib/libbasin.a target/staticlib/libledger.a -o "target/$1_c"
-}
-build check
-build stock
-build month
-target/stock_c samples/october.basin.bin | diff - examples/stock.expected
-target/month_c samples/october.basin.bin | diff - examples/month.expected
-test "$(target/check_c)" = "no bytes refused 1 0"
-names=crates/rivercheck/args
-(cd crates/rivercheck/data && xargs ../../../target/check_c <../args) | diff - crates/rivercheck/stdout
-echo "C: no bytes, and $(wc -l <"$names") named files answered as listed"
-if command -v valgrind >/dev/null; then
-    (cd crates/rivercheck/data && xargs valgrind -q --error-exitcode=1 ../../../target/check_c <../args) | diff - crates/rivercheck/stdout
-    valgrind -q --error-exitcode=1 target/month_c samples/october.basin.bin | diff - examples/month.expected
-    echo "C under valgrind: no read outside a file, no write outside a board or a report"
-fi
+[ -n "${RIVER_LIB_DIR:-}" ] || rt staticlib ledger
+RIVER_LIB_DIR=$(cd "${RIVER_LIB_DIR:-target/staticlib}" && pwd)
+export RIVER_LIB_DIR
+bash tests/native/examples.sh
 
 native() {
     cargo "$1" --release --offline --quiet --manifest-path tests/Cargo.toml --features native "${@:2}"
 }
-# All tests, those worked out by hand through the library too. Built once, with the libraries, since a second build costs more than the tests.
+# All tests, those worked out by hand through the library too. Built once, with the library, since a second build costs
+# more than the tests.
 native test
 
 said=$(mktemp)

@@ -2,12 +2,10 @@
 //! under the feature `native`, the static library. A test worked out by hand runs
 //! over all of them, so that its numbers are asked of each.
 
-use crate::engine;
+use crate::engine::{self, Answer};
 #[cfg(feature = "native")]
 use crate::ffi;
 
-/// Number and place, or 0 and what the call counts.
-pub type Answer = (u32, u32);
 /// Per right, the numbers of the stations that may be named.
 pub type Allowed = Vec<Vec<u32>>;
 
@@ -35,7 +33,7 @@ pub const ENGINES: &[Calls] = &[
     #[cfg(feature = "native")]
     Calls {
         by: "the static library",
-        check: ffi::check,
+        check: ffi::verdict,
         fresh: ffi::fresh,
         month: |file, runoff, board, report| (ffi::month(file, runoff, board, report), None),
         stock: ffi::stock,

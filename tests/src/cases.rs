@@ -3,6 +3,7 @@
 //! place that the rules give it.
 
 use crate::damage::{not_packed, rich_base, BROKEN, LEGAL};
+use crate::engine::Answer;
 use crate::examples::october;
 use crate::generate::{largest, Rng};
 
@@ -10,7 +11,7 @@ pub struct Case {
     pub name: String,
     pub file: Vec<u8>,
     /// Number and place; number 0 for an accepted file.
-    pub answer: (u32, usize),
+    pub answer: Answer,
 }
 
 impl Case {
@@ -56,10 +57,10 @@ pub fn cases(provo: &[u8]) -> Vec<Case> {
             add(&format!("layout {name}"), file, (1, 0));
         }
     }
-    for &(name, number, edit) in BROKEN {
+    for &(name, number, edit) in BROKEN.iter() {
         let mut basin = rich_base();
         let place = edit(&mut basin, rng).expect(name);
-        add(name, basin.encode(), (number, place));
+        add(name, basin.encode(), (number, place as u64));
     }
     for &(name, edit) in LEGAL {
         let mut basin = rich_base();

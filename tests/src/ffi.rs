@@ -1,20 +1,31 @@
-//! The static library's C functions, and safe wrappers.
+//! The static library's C functions, as `include/river.h` has them, and safe wrappers.
+
+use crate::engine::Answer;
 
 mod c {
+    #[repr(C)]
+    pub struct Answer {
+        pub number: u64,
+        pub place: u64,
+    }
+
+    #[repr(C)]
+    pub struct Sums {
+        pub number: u64,
+        pub place: u64,
+        pub storage: u64,
+        pub due: u64,
+    }
+
     extern "C" {
-        /// The refusal number of a file, 0 if it is accepted.
         pub fn river_check(file: *const u8, len: usize) -> u32;
-        /// Number × 2^32 + place.
-        pub fn river_check_place(file: *const u8, len: usize) -> u64;
-        /// Number × 2^32 + place.
-        pub fn river_fresh(file: *const u8, len: usize, board: *mut u64, board_len: usize) -> u64;
-        pub fn river_stock(
+        pub fn river_verdict(file: *const u8, len: usize) -> Answer;
+        pub fn river_fresh(
             file: *const u8,
             len: usize,
-            board: *const u64,
+            board: *mut u64,
             board_len: usize,
-        ) -> super::Sums;
-        /// Number × 2^32 + place; an accepted month: the number of rights short.
+        ) -> Answer;
         pub fn river_month(
             file: *const u8,
             len: usize,
@@ -24,48 +35,43 @@ mod c {
             board_len: usize,
             report: *mut u64,
             report_len: usize,
-        ) -> u64;
+        ) -> Answer;
+        pub fn river_stock(
+            file: *const u8,
+            len: usize,
+            board: *const u64,
+            board_len: usize,
+        ) -> Sums;
     }
 }
 
-/// What `river_stock` answers.
-#[repr(C)]
-struct Sums {
-    number: u32,
-    place: u32,
-    storage: u64,
-    due: u64,
+// In every call each pointer goes with the length of its slice, and a slice that may be
+// written lies apart from all others.
+
+/// Both numbers with all their bits.
+fn whole(answer: c::Answer) -> Answer {
+    (answer.number, answer.place)
 }
 
-/// The refusal number of the checked engine.
-pub fn check_number(file: &[u8]) -> u32 {
-    // The pointer and length of a slice: readable bytes, not written to.
+/// The refusal number alone.
+pub fn check(file: &[u8]) -> u32 {
     unsafe { c::river_check(file.as_ptr(), file.len()) }
 }
 
-/// Number and place of the checked engine.
-pub fn check(file: &[u8]) -> (u32, u32) {
-    let both = unsafe { c::river_check_place(file.as_ptr(), file.len()) };
-    ((both >> 32) as u32, both as u32)
+/// Number and place of what is wrong with a file.
+pub fn verdict(file: &[u8]) -> Answer {
+    whole(unsafe { c::river_verdict(file.as_ptr(), file.len()) })
 }
 
-/// Number and place of the checked engine's fresh board, which is written to `board`.
-pub fn fresh(file: &[u8], board: &mut [u64]) -> (u32, u32) {
-    let (len, board_len) = (file.len(), board.len());
-    let both = unsafe { c::river_fresh(file.as_ptr(), len, board.as_mut_ptr(), board_len) };
-    ((both >> 32) as u32, both as u32)
+/// Writes the fresh board.
+pub fn fresh(file: &[u8], board: &mut [u64]) -> Answer {
+    whole(unsafe { c::river_fresh(file.as_ptr(), file.len(), board.as_mut_ptr(), board.len()) })
 }
 
-/// Number, place and the two sums of the checked engine's stock.
-pub fn stock(file: &[u8], board: &[u64]) -> [u64; 4] {
-    let sums = unsafe { c::river_stock(file.as_ptr(), file.len(), board.as_ptr(), board.len()) };
-    [sums.number as u64, sums.place as u64, sums.storage, sums.due]
-}
-
-/// Number and place of the checked engine's month, or 0 and the number of rights short; it is
-/// run on `board` and told in `report`.
-pub fn month(file: &[u8], runoff: &[u32], board: &mut [u64], report: &mut [u64]) -> (u32, u32) {
-    let both = unsafe {
+/// Runs a month on `board` and tells it in `report`; answers 0 and the number of rights
+/// short, or a refusal.
+pub fn month(file: &[u8], runoff: &[u32], board: &mut [u64], report: &mut [u64]) -> Answer {
+    whole(unsafe {
         c::river_month(
             file.as_ptr(),
             file.len(),
@@ -76,6 +82,11 @@ pub fn month(file: &[u8], runoff: &[u32], board: &mut [u64], report: &mut [u64])
             report.as_mut_ptr(),
             report.len(),
         )
-    };
-    ((both >> 32) as u32, both as u32)
+    })
+}
+
+/// Number, place, sum of storages, sum of dues.
+pub fn stock(file: &[u8], board: &[u64]) -> [u64; 4] {
+    let sums = unsafe { c::river_stock(file.as_ptr(), file.len(), board.as_ptr(), board.len()) };
+    [sums.number, sums.place, sums.storage, sums.due]
 }

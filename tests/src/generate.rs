@@ -69,7 +69,7 @@ pub fn river(rng: &mut Rng, size: Size, volume: Volume, water: Water) -> River {
     // The demand of a month, at the middle, against the reaches that feed it.
     let demand = basin.rights.len() as u64 * amount_limit as u64 / 2;
     let reaches = basin.stations.len() as u64;
-    let runoff_limit = (demand * share / 10 / reaches).clamp(5, 1_000_000_000) as u32;
+    let runoff_limit = (demand * share / 10 / reaches).clamp(5, MOST_RUNOFF as u64) as u32;
     let file = basin.encode();
     River { basin, file, runoff_limit }
 }
@@ -85,7 +85,7 @@ impl River {
         if rng.chance(dry) {
             0
         } else if rng.chance(2) {
-            1_000_000_000
+            MOST_RUNOFF
         } else {
             rng.between(0, self.runoff_limit as u64) as u32
         }
@@ -132,7 +132,7 @@ pub fn sheet(rng: &mut Rng, basin: &Basin, tenths: u64) -> Vec<u32> {
     let amounts = |right: &Right| right.amounts.iter().map(|&amount| amount as u64).sum::<u64>();
     let demand = basin.rights.iter().map(amounts).sum::<u64>() / MONTHS as u64;
     let reaches = basin.stations.len() as u64;
-    let most = (demand * tenths / 10 / reaches).clamp(5, 1_000_000_000);
+    let most = (demand * tenths / 10 / reaches).clamp(5, MOST_RUNOFF as u64);
     (0..reaches).map(|_| rng.between(0, most) as u32).collect()
 }
 

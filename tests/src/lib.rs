@@ -6,7 +6,7 @@
 //! * [`generate`], [`damage`]: valid basins, and basins that break one rule.
 //! * [`calls`], [`run`]: the calls by each engine, for tests worked out by hand.
 //! * [`cases`]: the files that program `rivercheck` is run on, with what it prints.
-//! * `ffi` (feature `native`): the static library's C functions.
+//! * `ffi` (feature `native`): the static library's C functions; [`lent`]: lists for them.
 
 pub mod calls;
 pub mod cases;
@@ -16,6 +16,7 @@ pub mod examples;
 #[cfg(feature = "native")]
 pub mod ffi;
 pub mod generate;
+pub mod lent;
 pub mod listing;
 pub mod retold;
 pub mod run;

@@ -7,7 +7,9 @@ use crate::engine::check::{judge, Judged};
 use crate::engine::month::{month_on, NoWitness};
 use crate::engine::network::Network;
 use crate::engine::records::u32_at;
+use crate::engine::report;
 use crate::engine::slip::Faithful;
+use crate::engine::Answer;
 use std::io::{self, Read, Write};
 
 const HEADER: &[u8] = b"MONTH PERMIT RIVER STORE WHY AT\n";
@@ -51,7 +53,7 @@ pub fn run(basin: &[u8], mut months: impl Read, mut out: impl Write) -> io::Resu
 }
 
 /// The last line of a listing that is refused.
-fn refuse(mut out: impl Write, (number, place): (u32, u32)) -> io::Result<()> {
+fn refuse(mut out: impl Write, (number, place): Answer) -> io::Result<()> {
     writeln!(out, "refused {number} {place}")
 }
 
@@ -88,7 +90,7 @@ impl<'a> Run<'a> {
         }
     }
 
-    fn month(&mut self, part: &[u8]) -> (u32, u32) {
+    fn month(&mut self, part: &[u8]) -> Answer {
         for (runoff, number) in self.runoff.iter_mut().zip(part.as_chunks::<4>().0) {
             *runoff = u32::from_le_bytes(*number);
         }
@@ -98,17 +100,18 @@ impl<'a> Run<'a> {
 
     fn print(&self, number: u64, text: &mut Vec<u8>) {
         let sections = &self.basin.sections;
-        let (rights, rows) = self.report.split_at(4 * sections.rights.len());
+        let (rights, rows) = (sections.rights.len(), sections.stations.len());
         // A line to a right: the month, who it is, and what the report tells of it.
-        for (right, four) in sections.rights.iter().zip(rights.as_chunks::<4>().0) {
+        let lines = self.report[..report::flow(rights, 0)].as_chunks::<4>().0;
+        for (right, four) in sections.rights.iter().zip(lines) {
             push_number(text, number, b' ');
             push_number(text, u32_at(right, 0) as u64, b' ');
             push_line(text, *four);
         }
         // A line to the month: what leaves at the last row, and over the whole basin what
         // evaporated, is stored and is on its way.
-        let outflow = rows[2 * (sections.stations.len() - 1)];
-        let evaporation = rows[2 * sections.stations.len()..].iter().sum();
+        let outflow = self.report[report::flow(rights, rows - 1)];
+        let evaporation = self.report[report::evaporation(rights, rows, 0)..].iter().sum();
         let storage = self.board[STORAGES..MARKS].iter().sum();
         let pending = self.board[DUES..].iter().sum();
         push_number(text, number, b' ');

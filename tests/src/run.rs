@@ -4,6 +4,7 @@
 use crate::calls::{Allowed, Calls};
 use crate::engine::board::BOARD;
 use crate::engine::records::Basin;
+use crate::engine::report;
 use crate::engine::tally::Tally;
 
 pub struct Run {
@@ -39,7 +40,7 @@ impl Run {
     }
 
     /// Runs a month that is to be accepted; answers the number of rights short.
-    pub fn month(&mut self, runoff: &[u32]) -> u32 {
+    pub fn month(&mut self, runoff: &[u32]) -> u64 {
         let (answer, allowed) =
             (self.calls.month)(&self.file, runoff, &mut self.board, &mut self.report);
         assert_eq!(self.tally.call(runoff, self.report.len()), answer);
@@ -59,7 +60,7 @@ impl Run {
 
     /// Per right: from river, from storage, reason, station.
     pub fn grants(&self) -> Vec<[u64; 4]> {
-        self.report[..4 * self.rights].as_chunks().0.to_vec()
+        self.report[..report::flow(self.rights, 0)].as_chunks().0.to_vec()
     }
 
     /// A grant under reason 1 or 2, where several stations may be named: the named
@@ -73,18 +74,18 @@ impl Run {
     }
 
     pub fn flow(&self) -> Vec<u64> {
-        self.row_numbers().step_by(2).collect()
+        self.of_rows(report::flow)
     }
 
     pub fn available(&self) -> Vec<u64> {
-        self.row_numbers().skip(1).step_by(2).collect()
+        self.of_rows(report::available)
     }
 
     pub fn evaporation(&self) -> &[u64] {
-        &self.report[4 * self.rights + 2 * self.rows..]
+        &self.report[report::evaporation(self.rights, self.rows, 0)..]
     }
 
-    fn row_numbers(&self) -> impl Iterator<Item = u64> + '_ {
-        self.report[4 * self.rights..][..2 * self.rows].iter().copied()
+    fn of_rows(&self, place: fn(usize, usize) -> usize) -> Vec<u64> {
+        (0..self.rows).map(|row| self.report[place(self.rights, row)]).collect()
     }
 }

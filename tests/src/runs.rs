@@ -1,7 +1,7 @@
 //! The runs that program `riverrun` is put to under the gate: two files each, of
 //! which either may be missing, and the listing that the rules give them.
 
-use crate::engine::records::Basin;
+use crate::engine::records::{Basin, MOST_RUNOFF};
 use crate::examples::{months_bytes, october};
 use crate::generate::{river, Rng, Size, Volume, Water};
 use crate::listing::listing;
@@ -56,11 +56,11 @@ pub fn runs(provo: [Vec<u8>; 2]) -> Vec<Run> {
             .refused("refused 6 0"),
         run("last_part_one_byte", Some(file()), Some([&sheet[..], &sheet[..1]].concat()))
             .refused("refused 6 0"),
-        run("runoff_at_its_limit", Some(file()), Some(months_bytes(&[1_000_000_000; 3]))),
+        run("runoff_at_its_limit", Some(file()), Some(months_bytes(&[MOST_RUNOFF; 3]))),
         run(
             "runoff_over_its_limit",
             Some(file()),
-            Some([sheet.clone(), months_bytes(&[5, 1_000_000_001, u32::MAX])].concat()),
+            Some([sheet.clone(), months_bytes(&[5, MOST_RUNOFF + 1, u32::MAX])].concat()),
         )
         .refused("refused 8 1"),
         run("right_at_fault", Some(unpointed_below_100().encode()), Some(sheet))

@@ -18,8 +18,7 @@ fn files_and_lines_are_the_cases() {
         assert_eq!(format!("{line}\n"), case.line());
         assert_eq!(name, case.name);
         assert_eq!(fs::read(folder.join("data").join(name)).unwrap(), case.file, "{name}");
-        let (number, place) = case.answer;
-        assert_eq!(check(&case.file), (number, place as u32), "{name}");
+        assert_eq!(check(&case.file), case.answer, "{name}");
     }
     let last = args.lines().zip(stdout.lines()).skip(all.len());
     for ((name, line), (unread, said)) in last.zip(unread()) {

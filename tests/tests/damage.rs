@@ -2,7 +2,7 @@
 
 use river_tests::damage::*;
 use river_tests::engine::board::{BOARD, NEXT_MONTH};
-use river_tests::engine::records::Basin;
+use river_tests::engine::records::{Basin, MOST_RUNOFF};
 use river_tests::engine::{check, fresh, month, stock};
 use river_tests::examples::stations;
 use river_tests::generate::{any_river, river_of, Rng, Size};
@@ -27,12 +27,12 @@ fn each_broken_rule_is_refused_at_its_place() {
     assert_eq!(names.len(), BROKEN.len(), "two damages with one name");
     let mut times = 0;
     for (index, base) in bases().iter().enumerate() {
-        for &(name, number, edit) in BROKEN {
+        for &(name, number, edit) in BROKEN.iter() {
             let mut basin = base.clone();
             let place = edit(&mut basin, rng);
             assert!(place.is_some() || index > 0, "{name} finds nothing in the rich base");
             let Some(place) = place else { continue };
-            assert_eq!(check(&basin.encode()), (number, place as u32), "{name}, base {index}");
+            assert_eq!(check(&basin.encode()), (number, place as u64), "{name}, base {index}");
             times += 1;
         }
     }
@@ -89,7 +89,7 @@ fn random_orders_are_refused_at_the_first_row() {
             let last = row == rows - 1;
             !(1..=8).contains(&order) || (last && order != 1) || (!last && !finds(row, order))
         });
-        let expected = fault.map_or((0, 0), |row| (2, row as u32));
+        let expected = fault.map_or((0, 0), |row| (2, row as u64));
         assert_eq!(check(&basin.encode()), expected, "{list:?}");
         accepted += fault.is_none() as usize;
     }
@@ -107,8 +107,8 @@ fn the_lowest_number_is_given() {
     };
     let mut pairs = 0;
     for base in [rich_base(), any_river(&mut Rng::new(44)).basin] {
-        for &(name, number, edit) in BROKEN {
-            for &(other, higher, also) in BROKEN {
+        for &(name, number, edit) in BROKEN.iter() {
+            for &(other, higher, also) in BROKEN.iter() {
                 let mut basin = base.clone();
                 if higher <= number || also(&mut basin, rng).is_none() {
                     continue;
@@ -120,7 +120,7 @@ fn the_lowest_number_is_given() {
                     continue;
                 }
                 let told = check(&basin.encode());
-                assert_eq!(told, (number, place as u32), "{name}, and {other}");
+                assert_eq!(told, (number, place as u64), "{name}, and {other}");
                 let mut longer = basin.encode();
                 longer.push(0);
                 assert_eq!(check(&longer), (1, 0), "{name}, and one byte longer");
@@ -136,16 +136,16 @@ fn the_lowest_number_is_given() {
 #[test]
 fn refused_files_change_nothing() {
     let rng = &mut Rng::new(4);
-    for &(name, number, edit) in BROKEN {
+    for &(name, number, edit) in BROKEN.iter() {
         let mut basin = rich_base();
-        let place = edit(&mut basin, rng).unwrap() as u32;
+        let place = edit(&mut basin, rng).unwrap() as u64;
         let file = basin.encode();
         let mut board = vec![3; BOARD];
         let mut report = vec![4; basin.report_length()];
         let runoff = vec![1; basin.stations.len()];
         assert_eq!(fresh(&file, &mut board), (number, place), "{name}");
         assert_eq!(month(&file, &runoff, &mut board, &mut report), (number, place), "{name}");
-        assert_eq!(stock(&file, &board), [number as u64, place as u64, 0, 0], "{name}");
+        assert_eq!(stock(&file, &board), [number, place, 0, 0], "{name}");
         assert!(board.iter().all(|&n| n == 3) && report.iter().all(|&n| n == 4), "{name}");
     }
 }
@@ -259,17 +259,17 @@ fn runoff_over_its_limit_is_refused_at_the_first_row() {
         let before = board.clone();
         let mut report = vec![6; river.basin.report_length()];
         let first = rng.below(rows);
-        let mut runoff = vec![1_000_000_000; rows];
+        let mut runoff = vec![MOST_RUNOFF; rows];
         for over in &mut runoff[first..] {
-            *over = *rng.pick(&[1_000_000_001, u32::MAX, 1_000_000_000]);
+            *over = *rng.pick(&[MOST_RUNOFF + 1, u32::MAX, MOST_RUNOFF]);
         }
-        runoff[first] = 1_000_000_001;
+        runoff[first] = MOST_RUNOFF + 1;
         let answer = month(&river.file, &runoff, &mut board, &mut report);
-        assert_eq!(answer, (8, first as u32));
+        assert_eq!(answer, (8, first as u64));
         assert_eq!(board, before);
         assert!(report.iter().all(|&number| number == 6));
         // Exactly the limit in every reach is accepted.
-        runoff.fill(1_000_000_000);
+        runoff.fill(MOST_RUNOFF);
         assert_eq!(month(&river.file, &runoff, &mut board, &mut report).0, 0);
     }
 }

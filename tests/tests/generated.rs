@@ -57,7 +57,7 @@ fn sheets_hold_as_much_water_as_they_should() {
         let months = 120;
         let numbers: Vec<u32> = (0..months).flat_map(|_| sheet(rng, &basin, tenths)).collect();
         assert_eq!(numbers.len(), months * basin.stations.len());
-        assert!(numbers.iter().all(|&number| number <= 1_000_000_000));
+        assert!(numbers.iter().all(|&number| number <= MOST_RUNOFF));
         // Half of the most at the middle.
         let middle = demand as f64 / 12.0 * tenths as f64 / 10.0 / 2.0;
         let water = numbers.iter().map(|&number| number as f64).sum::<f64>() / months as f64;

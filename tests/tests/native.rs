@@ -1,23 +1,24 @@
-//! The static libraries against the plain engine, over valid files, every
+//! The static library against the plain engine, over valid files, every
 //! damage and random damage: number and place of the check; answer and every
 //! number of the board for fresh; all four numbers of stock. Where the rules give
 //! the answer of a damage, it is asked of the library too. Feature `native`.
 
 use river_tests::damage::*;
 use river_tests::engine::board::BOARD;
-use river_tests::engine::{check, fresh, stock};
+use river_tests::engine::{check, fresh, stock, Answer};
 use river_tests::ffi;
 use river_tests::generate::{any_river, largest, Rng};
+use river_tests::lent::Lent;
 
 /// Files compared, by refusal number.
 #[derive(Default)]
 struct Compared([usize; 6]);
 
 impl Compared {
-    fn compare(&mut self, file: &[u8], what: &str) -> (u32, u32) {
-        let answer = ffi::check(file);
+    fn compare(&mut self, file: &[u8], what: &str) -> Answer {
+        let answer = ffi::verdict(file);
         assert_eq!(answer, check(file), "{what}");
-        assert_eq!(ffi::check_number(file), answer.0, "{what}");
+        assert_eq!(ffi::check(file) as u64, answer.0, "{what}");
         self.0[answer.0 as usize] += 1;
         answer
     }
@@ -45,11 +46,11 @@ fn every_damage_and_every_extreme_value() {
     let mut compared = Compared::default();
     let random = (0..100).map(|seed| any_river(&mut Rng::new(seed)).basin);
     for base in std::iter::once(rich_base()).chain(random) {
-        for &(name, number, edit) in BROKEN {
+        for &(name, number, edit) in BROKEN.iter() {
             let mut basin = base.clone();
             if let Some(place) = edit(&mut basin, rng) {
                 let answer = compared.compare(&basin.encode(), name);
-                assert_eq!(answer, (number, place as u32), "{name}");
+                assert_eq!(answer, (number, place as u64), "{name}");
             }
         }
         for &(name, edit) in LEGAL {
@@ -70,8 +71,8 @@ fn every_damage_and_every_extreme_value() {
 fn pairs_of_damages() {
     let rng = &mut Rng::new(22);
     let mut compared = Compared::default();
-    for &(name, _, edit) in BROKEN {
-        for &(other, _, also) in BROKEN {
+    for &(name, _, edit) in BROKEN.iter() {
+        for &(other, _, also) in BROKEN.iter() {
             let mut basin = rich_base();
             also(&mut basin, rng);
             edit(&mut basin, rng);
@@ -102,10 +103,10 @@ fn random_damages() {
 fn compare_board(file: &[u8], board: &[u64], what: &str) -> usize {
     let told = ffi::stock(file, board);
     assert_eq!(told, stock(file, board), "stock, {what}");
-    let (mut plain, mut native) = (board.to_vec(), board.to_vec());
+    let (mut plain, mut native) = (board.to_vec(), Lent::of(board));
     let answer = fresh(file, &mut plain);
-    assert_eq!(ffi::fresh(file, &mut native), answer, "fresh, {what}");
-    assert_eq!(native, plain, "fresh board, {what}");
+    assert_eq!(ffi::fresh(file, native.list()), answer, "fresh, {what}");
+    native.assert_is(&plain, "fresh board", &what);
     told[0] as usize
 }
 

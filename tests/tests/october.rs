@@ -3,7 +3,7 @@
 
 use river_tests::calls::by_each;
 use river_tests::engine::board::{due, BOARD};
-use river_tests::engine::records::Basin;
+use river_tests::engine::records::{Basin, MOST_RUNOFF};
 use river_tests::engine::tally::{self, Tally};
 use river_tests::examples::{direct, months_bytes, october, pattern, stations, OCTOBER_RUNOFF};
 use river_tests::listing::listing;
@@ -184,7 +184,7 @@ mod program {
 
     #[test]
     fn refused_month_ends_the_run() {
-        let months = [&OCTOBER_RUNOFF[..], &[0, 1_000_000_001, 0], &OCTOBER_RUNOFF].concat();
+        let months = [&OCTOBER_RUNOFF[..], &[0, MOST_RUNOFF + 1, 0], &OCTOBER_RUNOFF].concat();
         let text = listing(&october().encode(), &months_bytes(&months));
         assert_eq!(text, format!("{PRINTED}refused 8 1\n"));
     }

@@ -7,8 +7,9 @@ use river_tests::engine::board::{self, BOARD};
 use river_tests::engine::check::judge;
 use river_tests::engine::month::{self, NoWitness};
 use river_tests::engine::network::Network;
+use river_tests::engine::records::MOST_RUNOFF;
 use river_tests::engine::slip::{Faithful, Slipped, Telling, ALL};
-use river_tests::engine::{check, fresh, month_allowed, stock};
+use river_tests::engine::{check, fresh, month_allowed, report, stock};
 use river_tests::generate::{any_river, largest, River, Rng};
 
 /// A difference between the right engine and a wrong one: where it was seen.
@@ -21,7 +22,7 @@ fn files() -> Vec<Vec<u8>> {
     let random = (100..140).map(|seed| any_river(&mut Rng::new(seed)).basin);
     for base in std::iter::once(rich_base()).chain(random) {
         files.push(base.encode());
-        for &(_, _, edit) in BROKEN {
+        for &(_, _, edit) in BROKEN.iter() {
             let mut basin = base.clone();
             files.extend(edit(&mut basin, rng).map(|_| basin.encode()));
         }
@@ -71,14 +72,15 @@ fn compare_month(
     }
     // Any allowed station may be named: put the right engine's name there.
     for (right, stations) in allowed.iter().enumerate() {
-        let named = 4 * right + 3;
+        let named = report::station(right);
         if stations.contains(&(wrong_report[named] as u32)) {
             wrong_report[named] = report[named];
         }
     }
     if wrong_report != report {
-        let only_named = (0..report_length)
-            .all(|at| wrong_report[at] == report[at] || (at < 4 * allowed.len() && at % 4 == 3));
+        let stations: Vec<_> = (0..allowed.len()).map(report::station).collect();
+        let only_named =
+            (0..report_length).all(|at| wrong_report[at] == report[at] || stations.contains(&at));
         return Some(if only_named { "month: station named" } else { "month: report" });
     }
     (wrong_board != *board).then_some("month: board")
@@ -164,7 +166,7 @@ fn compare_refused_calls(
         board.resize(boards, 0);
         // With the right lengths: several rows over the limit, but not the first.
         let over =
-            if (runoffs, boards, reports) == (rows, BOARD, length) { 1_000_000_001 } else { 0 };
+            if (runoffs, boards, reports) == (rows, BOARD, length) { MOST_RUNOFF + 1 } else { 0 };
         let mut runoff = vec![over; runoffs];
         if rows > 1 && !runoff.is_empty() {
             runoff[0] = 0;

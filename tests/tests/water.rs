@@ -3,8 +3,9 @@
 //! engine's answer, board and report are compared with what the tally keeps.
 
 use river_tests::engine::board::*;
+use river_tests::engine::records::MOST_RUNOFF;
 use river_tests::engine::tally::{Reason, Tally};
-use river_tests::engine::{fresh, month_allowed};
+use river_tests::engine::{fresh, month_allowed, report};
 use river_tests::generate::{any_river, river_of, River, Rng, Size};
 
 #[derive(Default)]
@@ -32,7 +33,7 @@ fn compare_list(rng: &mut Rng, river: &River, calls: usize, compared: &mut Compa
             1 => runoff.push(0),
             2 => {
                 let row = rng.below(runoff.len());
-                runoff[row] = 1_000_000_001;
+                runoff[row] = MOST_RUNOFF + 1;
             }
             3 => {
                 runoff.pop();
@@ -84,28 +85,28 @@ fn compare_report(
 ) {
     let past = tally.months.last().unwrap();
     for (place, grant) in past.grants.iter().enumerate() {
-        let four = &report[4 * place..4 * place + 4];
-        assert_eq!(four[0], grant.from_river as u64);
-        assert_eq!(four[1], grant.from_storage as u64);
-        assert_eq!(four[2], grant.reason.number());
+        let reason = grant.reason.number();
+        let named = report[report::station(place)];
+        assert_eq!(report[report::from_river(place)], grant.from_river as u64);
+        assert_eq!(report[report::from_storage(place)], grant.from_storage as u64);
+        assert_eq!(report[report::reason(place)], reason);
         let mut stations = grant.stations.clone();
         stations.sort();
         assert_eq!(stations, allowed[place]);
         match grant.reason {
-            Reason::NotShort => assert_eq!(four[3], 0),
-            _ => assert!(stations.contains(&(four[3] as u32))),
+            Reason::NotShort => assert_eq!(named, 0),
+            _ => assert!(stations.contains(&(named as u32))),
         }
-        compared.reasons[four[2] as usize] += 1;
-        compared.free[four[2] as usize] += (stations.len() > 1) as usize;
+        compared.reasons[reason as usize] += 1;
+        compared.free[reason as usize] += (stations.len() > 1) as usize;
     }
-    let rows = &report[4 * past.grants.len()..];
-    for row in 0..past.flow.len() {
-        assert_eq!(rows[2 * row], past.flow[row] as u64);
-        assert_eq!(rows[2 * row + 1], past.available[row] as u64);
+    let (rights, rows) = (past.grants.len(), past.flow.len());
+    for row in 0..rows {
+        assert_eq!(report[report::flow(rights, row)], past.flow[row] as u64);
+        assert_eq!(report[report::available(rights, row)], past.available[row] as u64);
     }
-    let lakes = &rows[2 * past.flow.len()..];
     for (lake, evaporation) in past.evaporation.iter().enumerate() {
-        assert_eq!(lakes[lake], *evaporation as u64);
+        assert_eq!(report[report::evaporation(rights, rows, lake)], *evaporation as u64);
     }
     assert_eq!(past.evaporation.len(), river.basin.reservoirs.len());
 }

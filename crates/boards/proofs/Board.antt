@@ -1,21 +1,23 @@
 -- A board is read as it was written. Assumes nothing.
-use mathlib.Core.Path.{_≡_, refl, sym, ap, _∙_}
-use mathlib.Core.Bool.{Bool, true, false, cond}
+use mathlib.Core.Path.{_≡_, sym, ap, _∙_}
+use mathlib.Core.Bool.{Bool, true, false}
 use mathlib.Core.List.{List, [], _∷_}
 use Prim.Native.Nat.{ℕ, zero, suc, _+_, _-_, _*_, _/_, _%_, _^_, _≤_, _<_}
 use native.Mathlib.Nat.{pow-suc, pow-succ', mul-comm, div-div-eq-div-mul, zero-div}
 use native.Mathlib.Omega.{arith}
-use lib.Dec.{ltb, eqb}
+use lib.Dec.{ltb}
 use lib.ListN.{length, getD}
 use Rattle.general.specs.Sums.{only}
 use Rattle.general.specs.Tables.{tab}
-use Rattle.general.proofs.Tests.{eqb-other, ltb-yes, ltb-no, lt-of, only-yes}
-use Rattle.general.proofs.Tables.{tab-length, tab-at, tab-same, tab-of}
+use Rattle.general.proofs.Tests.{ltb-yes, lt-of, only-yes, only-same, only-none}
+use Rattle.general.proofs.Tables.{tab-of}
 use Rattle.rules.specs.Basin.{Basin, rows}
-use Rattle.rules.specs.Turn.{bit}
+use Rattle.general.specs.Tests.{bit}
 use Rattle.rules.specs.Month.{Carried}
 use Rattle.rules.specs.Accepted.{Accepted}
-use Rattle.boards.specs.Board.{monthAt, storageAt, marksAt, takenAt, dueAt, carriedOf, wordOf, placeOf, boardOf}
+use Rattle.places.specs.Board.{monthAt, storageAt, marksAt, takenAt, dueAt, boardLength, Parts, duesFrom}
+use Rattle.places.proofs.BoardPlaces.{by-places, by-length, month-by, storage-by, marks-by, taken-by, due-by, board-is}
+use Rattle.boards.specs.Board.{boardParts, carriedOf, wordOf, boardOf}
 
 -- ---- the word of marks
 
@@ -55,44 +57,59 @@ word-less (false ∷ ts) = omega (arith, word-less ts, pow-succ' 2 (length ts))
 -- ---- places
 
 module _ (b : Basin) (c : Carried) (due : ℕ → ℕ → ℕ) where
-  pub board-length : length (boardOf b c due) ≡ 970
-  unfolding boardOf
-  board-length = tab-length _ 970
+  abbrev parts : Parts
+  parts = boardParts b c due
 
-  at : (p : ℕ) → p < 970 → getD (boardOf b c due) p 0 ≡ placeOf b c due p
+  pub board-length : length (boardOf b c due) ≡ boardLength
   unfolding boardOf
-  at p h = tab-at (placeOf b c due) 970 p 0 h
+  board-length = by-length parts
 
   pub month-place : monthAt (boardOf b c due) ≡ c .m
-  unfolding placeOf
-  month-place = at 0 (omega arith)
+  unfolding boardOf boardParts
+  month-place = month-by parts
 
   pub storage-place : (v : ℕ) → v < 8 → storageAt (boardOf b c due) v ≡ getD (c .storages) v 0
-  unfolding placeOf
-  storage-place v h = at (1 + v) (omega arith)
-      ∙ rw (eqb-other (1 + v) 0 (omega arith), ltb-yes (1 + v) 9 (omega arith)) (ap (λ (j : ℕ). getD (c .storages) j 0) (omega arith))
+  unfolding boardOf boardParts
+  storage-place v h = storage-by parts v h
 
   pub marks-place : marksAt (boardOf b c due) ≡ wordOf (c .marks)
-  unfolding placeOf
-  marks-place = at 9 (omega arith)
+  unfolding boardOf boardParts
+  marks-place = marks-by parts
 
   pub taken-place : (i : ℕ) → i < 256 → takenAt (boardOf b c due) i ≡ getD (c .taken) i 0
-  unfolding placeOf
-  taken-place i h = at (10 + i) (omega arith)
-      ∙ rw (eqb-other (10 + i) 0 (omega arith), ltb-no (10 + i) 9 (omega arith), eqb-other (10 + i) 9 (omega arith), ltb-yes (10 + i) 266 (omega arith))
-      (ap (λ (j : ℕ). getD (c .taken) j 0) (omega arith))
+  unfolding boardOf boardParts
+  taken-place i h = taken-by parts i h
 
   -- at any row, also one that the basin lacks
   pub due-place : (w k : ℕ) → w < 64 → k < 11 → dueAt (boardOf b c due) w (suc k) ≡ only (ltb w (rows b)) (due w (suc k))
-  unfolding placeOf
-  due-place w k h l =
-      let p : ℕ = 266 + 11 * w + (suc k - 1) in
-      let e : (p - 266) / 11 ≡ w = omega arith in
-      let f : (p - 266) % 11 ≡ k = omega arith in
-      at p (omega arith) ∙ rw (eqb-other p 0 (omega arith), ltb-no p 9 (omega arith), eqb-other p 9 (omega arith), ltb-no p 266 (omega arith), e, f)
+  unfolding boardOf boardParts
+  due-place w k h l = due-by parts w k h l
 
   pub due-of-row : (w k : ℕ) → w < rows b → rows b ≤ 64 → k < 11 → dueAt (boardOf b c due) w (suc k) ≡ due w (suc k)
   due-of-row w k h n l = due-place w k (omega arith) l ∙ only-yes (ltb w (rows b)) (due w (suc k)) (ltb-yes w (rows b) h)
+
+  -- a list that holds all of it is that board
+  pub record Tells (l : List ℕ) : Type 0 where
+    pub size : length l ≡ boardLength
+    pub month : monthAt l ≡ c .m
+    pub storages : (v : ℕ) → v < 8 → storageAt l v ≡ getD (c .storages) v 0
+    pub marks : marksAt l ≡ wordOf (c .marks)
+    pub taken : (i : ℕ) → i < 256 → takenAt l i ≡ getD (c .taken) i 0
+    pub dues : (w k : ℕ) → w < 64 → k < 11 → dueAt l w (suc k) ≡ only (ltb w (rows b)) (due w (suc k))
+
+  pub board-told : (l : List ℕ) → Tells l → l ≡ boardOf b c due
+  unfolding boardOf boardParts
+  board-told l t = board-is l parts (t .size) (record { month = t .month; storage = t .storages; marks = t .marks; taken = t .taken; due = t .dues })
+
+-- where nothing is due no place of the dues holds anything
+pub due-none : (b : Basin) (c : Carried) (p : ℕ) → duesFrom ≤ p → p < boardLength → getD (boardOf b c (λ w k. 0)) p 0 ≡ 0
+due-none b c p h l = by-places (λ p. duesFrom ≤ p → getD (boardOf b c (λ w k. 0)) p 0 ≡ 0)
+    (λ o. absurd (omega (arith, o)))
+    (λ v m o. absurd (omega (arith, m, o)))
+    (λ o. absurd (omega (arith, o)))
+    (λ i m o. absurd (omega (arith, m, o)))
+    (λ w k m n o. due-place b c (λ w k. 0) w k m n ∙ only-none (ltb w (rows b)))
+    p l h
 
 -- what is carried has a storage and a mark for each reservoir, and a number taken for each right
 pub record Counted (b : Basin) (c : Carried) : Type 0 where
@@ -115,19 +132,12 @@ read-back b acc c due n = λ z. record { m = month-place b c due z; storages = s
 
 -- ---- only what is due at a row of the basin at k = 1 to 11 counts
 
-only-same : (t : Bool) (x y : ℕ) → (t ≡ true → x ≡ y) → only t x ≡ only t y
-only-same true x y h = h refl
-only-same false x y h = refl
-
 pub board-same : (b : Basin) (c : Carried) (d e : ℕ → ℕ → ℕ) → ((w k : ℕ) → w < rows b → k < 11 → d w (suc k) ≡ e w (suc k)) → boardOf b c d ≡ boardOf b c e
-unfolding boardOf placeOf
-board-same b c d e h = tab-same 970 (placeOf b c d) (placeOf b c e) (λ p l. same p (eqb p 0) (ltb p 9) (eqb p 9) (ltb p 266))
-  where
-    same : (p : ℕ) (t₀ t₁ t₂ t₃ : Bool)
-        → cond t₀ (c .m) (cond t₁ (getD (c .storages) (p - 1) 0) (cond t₂ (wordOf (c .marks)) (cond t₃ (getD (c .taken) (p - 10) 0) (only (ltb ((p - 266) / 11) (rows b)) (d ((p - 266) / 11) (suc ((p - 266) % 11)))))))
-        ≡ cond t₀ (c .m) (cond t₁ (getD (c .storages) (p - 1) 0) (cond t₂ (wordOf (c .marks)) (cond t₃ (getD (c .taken) (p - 10) 0) (only (ltb ((p - 266) / 11) (rows b)) (e ((p - 266) / 11) (suc ((p - 266) % 11)))))))
-    same p true t₁ t₂ t₃ = refl
-    same p false true t₂ t₃ = refl
-    same p false false true t₃ = refl
-    same p false false false true = refl
-    same p false false false false = only-same (ltb ((p - 266) / 11) (rows b)) _ _ (λ q. h ((p - 266) / 11) ((p - 266) % 11) (lt-of q) (omega arith))
+board-same b c d e h = board-told b c e (boardOf b c d) (record {
+  size = board-length b c d;
+  month = month-place b c d;
+  storages = storage-place b c d;
+  marks = marks-place b c d;
+  taken = taken-place b c d;
+  dues = λ w k l o. due-place b c d w k l o ∙ only-same (ltb w (rows b)) _ _ (λ q. h w k (lt-of q) o);
+})

@@ -8,7 +8,6 @@ use native.Mathlib.Omega.{arith}
 use lib.Dec.{ltb}
 use lib.ListN.{length, List·getD-eq-default}
 use Rattle.general.specs.Sums.{only}
-use Rattle.general.specs.Tests.{_and_}
 use Rattle.general.proofs.Lists.{all-at-place}
 use Rattle.general.proofs.Search.{all-at, all-make}
 use Rattle.general.proofs.Tests.{leb-yes, ltb-yes, ltb-no, both-of, and-of, le-of, lt-of, only-le}
@@ -17,7 +16,8 @@ use Rattle.rules.specs.Accepted.{Accepted, GoodReservoir, GoodRight}
 use Rattle.rules.specs.Month.{Carried}
 use Rattle.rules.specs.Theorems.{mostDue}
 use Rattle.rules.proofs.Bounds.{CarriedCapped}
-use Rattle.boards.specs.Board.{monthAt, storageAt, marksAt, takenAt, dueAt, boardOf, possible}
+use Rattle.places.specs.Board.{monthAt, storageAt, marksAt, takenAt, dueAt, boardLength}
+use Rattle.boards.specs.Board.{boardOf, possible}
 use Rattle.boards.specs.Bodies.{Bounded}
 use Rattle.boards.proofs.Board.{month-place, storage-place, marks-place, taken-place, due-place, word-less}
 
@@ -71,7 +71,7 @@ module _ (b : Basin) (acc : Accepted b) where
       pick (no h) = omega (arith, ap (λ (x : Right). x .limit) (List·getD-eq-default (b .rights) noRight {n = i} (omega (arith, h))))
 
   -- the sums of a possible board cannot wrap
-  pub bounded : (bd : List ℕ) → length bd ≡ 970 → possible b bd ≡ true → Bounded bd
+  pub bounded : (bd : List ℕ) → length bd ≡ boardLength → possible b bd ≡ true → Bounded bd
   bounded bd size can = record {
     long = size;
     storages = λ v h. omega (arith, storage-most b bd can v h, capacity-most v);

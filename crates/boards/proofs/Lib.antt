@@ -1,4 +1,4 @@
 pub mod Board
-pub mod Bounds
 pub mod Bodies
-pub mod Names
+pub mod Bounds
+pub mod Report

@@ -1,20 +1,16 @@
--- The basin of a file's four bodies, and what a possible board holds there, body by body.
+-- What a possible board holds, read off the bodies of a file.
 use mathlib.Core.Path.{_≡_}
-use mathlib.Core.Bool.{Bool, cond}
-use mathlib.Core.List.{List, map}
+use mathlib.Core.Bool.{Bool}
+use mathlib.Core.List.{List}
 use Prim.Native.Nat.{ℕ, suc, _+_, _-_, _≤_, _<_}
 use lib.Dec.{leb, ltb, eqb}
 use lib.ListN.{length, getD}
 use Rattle.general.specs.Sums.{only}
-use Rattle.general.specs.Tables.{tab}
 use Rattle.general.specs.Tests.{allTo}
-use Rattle.rules.specs.Basin.{Reservoir, Basin, noReservoir, noRight}
+use Rattle.rules.specs.Basin.{noReservoir, noRight}
 use Rattle.rules.specs.Theorems.{mostDue}
-use Rattle.records.specs.Records.{rowsOf, stationsOf, reservoirCount, reservoirsOf, patternsOf, rightCount, rightsOf}
-use Rattle.boards.specs.Board.{storageAt, takenAt, dueAt}
-
-unfoldable pub bodies : List ℕ → List ℕ → List ℕ → List ℕ → Basin
-bodies st rs ps ri = record { stations = stationsOf st; reservoirs = reservoirsOf rs; patterns = patternsOf ps; rights = rightsOf ri }
+use Rattle.records.specs.Records.{rowsOf, reservoirCount, reservoirsOf, rightCount, rightsOf}
+use Rattle.places.specs.Board.{boardLength, storageAt, takenAt, dueAt}
 
 -- ---- what each place may hold: 0 where there is no reservoir, right or row
 
@@ -60,19 +56,10 @@ pub record Sized (st rs ri board : List ℕ) : Type 0 where
   pub rows-in : rowsOf st ≤ 64
   pub reservoirs-in : reservoirCount rs ≤ 8
   pub rights-in : rightCount ri ≤ 256
-  pub board-long : length board ≡ 970
+  pub board-long : length board ≡ boardLength
 
 -- what a possible board gives to its sums: no storage above the highest capacity that a file may have, no due above that of eleven months
 pub record Bounded (board : List ℕ) : Type 0 where
-  pub long : length board ≡ 970
+  pub long : length board ≡ boardLength
   pub storages : (v : ℕ) → v < 8 → storageAt board v ≤ 2_000_000_000
   pub dues : (w k : ℕ) → w < 64 → k < 11 → dueAt board w (suc k) ≤ 2_816_000_000_000
-
--- ---- the fresh board
-
--- place p: the starting storages at 1, 2, .., else 0
-unfoldable pub startAt : List ℕ → ℕ → ℕ
-startAt rs p = cond (eqb p 0) 0 (getD (map (λ (v : Reservoir). v .start) (reservoirsOf rs)) (p - 1) 0)
-
-unfoldable pub startBoard : List ℕ → List ℕ
-startBoard rs = tab 970 (startAt rs)

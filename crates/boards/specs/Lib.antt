@@ -1,4 +1,3 @@
 pub mod Board
 pub mod Report
-pub mod Calls
 pub mod Bodies

@@ -1,2 +1,3 @@
-// A board of a basin: whether it is possible.
+// A board of a basin: whether it is possible, and its sums.
 pub mod possible;
+pub mod sums;

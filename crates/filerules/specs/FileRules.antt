@@ -7,9 +7,11 @@ use lib.Dec.{leb, ltb, eqb}
 use Rattle.general.specs.Sums.{sum, sumTo}
 use Rattle.general.specs.Tests.{_and_, between, has, allTo, isSome}
 use Rattle.rules.specs.Path.{rowBelow, path}
+use Rattle.records.specs.declared.rights.Kind.{Kind}
+use Rattle.records.specs.declared.rights.Kind.the-variants.{Direct, Project, Instream, Storage}
 use Rattle.records.specs.declared.rights.RightRecord.{RightRecord}
-use Rattle.layout.specs.Bytes.{threeZeros}
-use Rattle.records.specs.Records.{rowsOf, stationRecord, stationsOf, reservoirCount, reservoirRecord, contentAt, areaAt, depthAt, patternOf, rightRecord, amountAt, returnRow, returnPercent}
+use Rattle.numbers.specs.Bytes.{threeZeros}
+use Rattle.records.specs.Records.{rowsOf, stationRecord, stationsOf, reservoirCount, reservoirRecord, contentAt, areaAt, depthAt, patternOf, kindByte, rightRecord, amountAt, returnRow, returnPercent}
 
 -- ---- stations
 
@@ -81,27 +83,41 @@ patternOk s p = eqb (sum (patternOf s p)) 100
 unfoldable pub dateOk : ℕ → Bool
 dateOk d = between 18000101 d 20991231 || eqb d 99999999
 
+-- The byte of a right's kind is one of four. A record has a kind whatever that byte is, so that this is asked of the file itself.
+unfoldable pub kindKnown : List ℕ → ℕ → Bool
+kindKnown s i = between 1 (kindByte s i) 4
+
 -- a yearly limit for storage rights, and for them alone
-unfoldable pub limitOk : ℕ → ℕ → Bool
-limitOk kind x = cond (eqb kind 4) (between 1 x 2_000_000_000) (eqb x 0)
+unfoldable pub limitOk : Kind → ℕ → Bool
+limitOk Direct x = eqb x 0
+limitOk Project x = eqb x 0
+limitOk Instream x = eqb x 0
+limitOk Storage x = between 1 x 2_000_000_000
 
 -- What the record shows by itself, in a basin of n rows. The months word has a bit for each of twelve months and no other.
 unfoldable pub headingOk : ℕ → RightRecord → Bool
 headingOk n r =
     between 1 (r .permit) 999_999_999
     and dateOk (r .date)
-    and between 1 (r .kind) 4
     and ltb (r .row) n
     and leb (r .points) 4
     and ltb (r .months) 4096
     and limitOk (r .kind) (r .limit)
 
+-- the row is on the path of reservoir v
+unfoldable pub belowReservoir : List ℕ → List ℕ → ℕ → ℕ → Bool
+belowReservoir st rs v row = ltb v (reservoirCount rs) and has row (path (stationsOf st) ((reservoirRecord rs v) .row))
+
+-- the row is that of reservoir v
+unfoldable pub atReservoir : List ℕ → ℕ → ℕ → Bool
+atReservoir rs v row = ltb v (reservoirCount rs) and eqb row ((reservoirRecord rs v) .row)
+
 -- Direct and instream rights name no reservoir. A storage right stands where its reservoir does, a project right on that reservoir's path.
-unfoldable pub sourceOk : List ℕ → List ℕ → RightRecord → Bool
-sourceOk st rs r =
-    cond (eqb (r .kind) 1 || eqb (r .kind) 3) (eqb (r .reservoir) 255)
-    (ltb (r .reservoir) (reservoirCount rs)
-    and cond (eqb (r .kind) 4) (eqb (r .row) ((reservoirRecord rs (r .reservoir)) .row)) (has (r .row) (path (stationsOf st) ((reservoirRecord rs (r .reservoir)) .row))))
+unfoldable pub sourceOk : Kind → List ℕ → List ℕ → RightRecord → Bool
+sourceOk Direct st rs r = eqb (r .reservoir) 255
+sourceOk Project st rs r = belowReservoir st rs (r .reservoir) (r .row)
+sourceOk Instream st rs r = eqb (r .reservoir) 255
+sourceOk Storage st rs r = atReservoir rs (r .reservoir) (r .row)
 
 -- Water comes back at a station that is not listed before the right's own, and each point gets some of it.
 unfoldable pub pointOk : ℕ → ℕ → ℕ → ℕ → Bool
@@ -122,14 +138,23 @@ pointsOk n np s i r =
     and eachPointOk n (r .row) s i (r .points)
     and eqb (sumTo (r .points) (returnPercent s i)) 100
 
--- Instream and storage rights have nothing to consume or return. A direct or project right without points consumes all: a rest would have nowhere to return to.
-unfoldable pub returnsOk : ℕ → ℕ → List ℕ → ℕ → RightRecord → Bool
-returnsOk n np s i r =
-    cond (eqb (r .kind) 3 || eqb (r .kind) 4)
-    (eqb (r .efficiency) 0 and eqb (r .pattern) 255 and eqb (r .points) 0)
-    (cond (eqb (r .points) 0)
+-- A diversion without points consumes all: a rest would have nowhere to return to.
+unfoldable pub diversionOk : ℕ → ℕ → List ℕ → ℕ → RightRecord → Bool
+diversionOk n np s i r =
+    cond (eqb (r .points) 0)
     (eqb (r .efficiency) 100 and eqb (r .pattern) 255)
-    (pointsOk n np s i r))
+    (pointsOk n np s i r)
+
+-- no diversion: nothing to consume or return
+unfoldable pub undivertedOk : RightRecord → Bool
+undivertedOk r = eqb (r .efficiency) 0 and eqb (r .pattern) 255 and eqb (r .points) 0
+
+-- Direct and project rights divert. Instream rights leave the water in the river, and storage rights put it in a reservoir.
+unfoldable pub returnsOk : Kind → ℕ → ℕ → List ℕ → ℕ → RightRecord → Bool
+returnsOk Direct n np s i r = diversionOk n np s i r
+returnsOk Project n np s i r = diversionOk n np s i r
+returnsOk Instream n np s i r = undivertedOk r
+returnsOk Storage n np s i r = undivertedOk r
 
 -- the pairs after the points are blank
 unfoldable pub unusedOk : List ℕ → ℕ → ℕ → Bool
@@ -150,9 +175,10 @@ rightRises s i = eqb i 0 || earlier (rightRecord s (i - 1)) (rightRecord s i)
 -- all rules of a right; np is the number of patterns
 unfoldable pub rightOk : List ℕ → List ℕ → ℕ → List ℕ → ℕ → Bool
 rightOk st rs np s i =
-    headingOk (rowsOf st) (rightRecord s i)
-    and sourceOk st rs (rightRecord s i)
-    and returnsOk (rowsOf st) np s i (rightRecord s i)
+    kindKnown s i
+    and headingOk (rowsOf st) (rightRecord s i)
+    and sourceOk ((rightRecord s i) .kind) st rs (rightRecord s i)
+    and returnsOk ((rightRecord s i) .kind) (rowsOf st) np s i (rightRecord s i)
     and unusedOk s i ((rightRecord s i) .points)
     and amountsOk s i
     and rightRises s i

@@ -4,18 +4,20 @@ ghost use mathlib.Core.Path.{_≡_};
 ghost use Prim.Native.Nat.{ℕ, _≤_, _<_};
 ghost use Rattle.general.specs.Sums.{sumTo};
 ghost use Rattle.records.specs.Records.{rightCount, returnPercent};
-ghost use Rattle.filerules.specs.FileRules.{dateOk, limitOk, headingOk, sourceOk, pointOk, eachPointOk, pointsOk, returnsOk, unusedOk, amountsOk, earlier, rightRises, rightOk};
+ghost use Rattle.filerules.specs.FileRules.{dateOk, kindKnown, limitOk, headingOk, belowReservoir, atReservoir, sourceOk, pointOk, eachPointOk, pointsOk, diversionOk, returnsOk, unusedOk, amountsOk, earlier, rightRises, rightOk};
 ghost use Rattle.records.specs.Table.{GoodRows, TableFor, ReservoirsOn};
-use layout::bytes::all_at_most;
-use layout::bytes::byte_sum;
-use layout::bytes::index;
-use layout::bytes::wide32;
-use layout::conditions::both;
-use layout::conditions::either;
-use layout::conditions::in_range;
+use numbers::both;
+use numbers::byte32;
+use numbers::bytes::all_at_most;
+use numbers::bytes::byte_sum;
+use numbers::either;
+use numbers::in_range;
+use numbers::index;
 use records::network::on_path;
 use records::reservoirs::reservoir_at;
+use records::rights::Kind;
 use records::rights::RightRecord;
+use records::rights::kind_byte;
 use records::rights::return_percent;
 use records::rights::return_row;
 use records::rights::right_at;
@@ -26,13 +28,21 @@ fn date_ok(date: u32) -> bool
     either(in_range(18000101, date, 20991231), date == 99999999)
 }
 
-fn limit_ok(kind: u8, limit: u32) -> bool
+// Whether a right's kind is one of the four. A record has a kind whatever its byte is, so that the byte itself is asked.
+fn kind_known(rights: &[u8], i: usize) -> bool
+    requires { ⌜ i < rightCount (now rights) ⌝ }
+    ensures { λ b. ⌜ b ≡ kindKnown (now (rights .entry)) i ⌝ }
+{
+    in_range(1, byte32(kind_byte(rights, i)), 4)
+}
+
+fn limit_ok(kind: Kind, limit: u32) -> bool
     ensures { λ r. ⌜ r ≡ limitOk kind limit ⌝ }
 {
-    if kind == 4 {
-        return in_range(1, limit, 2000000000);
+    match kind {
+        Kind::Direct | Kind::Project | Kind::Instream => limit == 0,
+        Kind::Storage => in_range(1, limit, 2000000000),
     }
-    limit == 0
 }
 
 // The rules that the record shows by itself, in a basin of n rows.
@@ -40,32 +50,47 @@ fn heading_ok(n: usize, r: RightRecord) -> bool
     ensures { λ b. ⌜ b ≡ headingOk n r ⌝ }
 {
     let named = both(in_range(1, r.permit, 999999999), date_ok(r.date));
-    let placed = both(
-        both(named, in_range(1, wide32(r.kind), 4)),
-        index(r.row) < n,
-    );
+    let placed = both(named, index(r.row) < n);
     let counted = both(both(placed, r.points <= 4), r.months < 4096);
-    both(counted, limit_ok(r.kind, r.limit))
+    let kind = r.kind;
+    both(counted, limit_ok(kind, r.limit))
 }
 
-// The reservoir that the right names, and where the right stands to it. Only a project right needs a walk down the river.
-// The promise is for the stations that the table was made from.
-fn source_ok(below: &[u8; 64], reservoirs: &[u8], r: RightRecord) -> bool
+// Whether the row is on the path of reservoir v. The promise is for the stations that the table was made from.
+fn below_reservoir(below: &[u8; 64], reservoirs: &[u8], v: usize, row: usize) -> bool
     requires { ⌜ ReservoirsOn (now below) (now reservoirs) ⌝ }
-    ensures { λ b. ⌜ ((st : List ℕ) → TableFor st (now (below .entry)) → GoodRows st (now (reservoirs .entry)) → b ≡ sourceOk st (now (reservoirs .entry)) r) ⌝ }
+    ensures { λ b. ⌜ ((st : List ℕ) → TableFor st (now (below .entry)) → GoodRows st (now (reservoirs .entry)) → b ≡ belowReservoir st (now (reservoirs .entry)) v row) ⌝ }
 {
-    if either(r.kind == 1, r.kind == 3) {
-        return r.reservoir == 255;
-    }
-    let v = index(r.reservoir);
     if reservoirs.len() / 68 <= v {
         return false;
     }
     let behind = reservoir_at(reservoirs, v);
-    if r.kind == 4 {
-        return r.row == behind.row;
+    on_path(below, index(behind.row), row)
+}
+
+// Whether the row is that of reservoir v.
+fn at_reservoir(reservoirs: &[u8], v: usize, row: u8) -> bool
+    ensures { λ b. ⌜ b ≡ atReservoir (now (reservoirs .entry)) v row ⌝ }
+{
+    if reservoirs.len() / 68 <= v {
+        return false;
     }
-    on_path(below, index(behind.row), index(r.row))
+    let behind = reservoir_at(reservoirs, v);
+    row == behind.row
+}
+
+// The reservoir that the right names, and where the right stands to it. Only a project right needs a walk down the river.
+fn source_ok(below: &[u8; 64], reservoirs: &[u8], r: RightRecord) -> bool
+    requires { ⌜ ReservoirsOn (now below) (now reservoirs) ⌝ }
+    ensures { λ b. ⌜ ((st : List ℕ) → TableFor st (now (below .entry)) → GoodRows st (now (reservoirs .entry)) → b ≡ sourceOk (r .kind) st (now (reservoirs .entry)) r) ⌝ }
+{
+    let kind = r.kind;
+    let v = index(r.reservoir);
+    match kind {
+        Kind::Direct | Kind::Instream => r.reservoir == 255,
+        Kind::Project => below_reservoir(below, reservoirs, v, index(r.row)),
+        Kind::Storage => at_reservoir(reservoirs, v, r.row),
+    }
 }
 
 fn point_ok(n: usize, from: usize, row: usize, percent: u8) -> bool
@@ -73,7 +98,7 @@ fn point_ok(n: usize, from: usize, row: usize, percent: u8) -> bool
 {
     both(
         both(from <= row, row < n),
-        in_range(1, wide32(percent), 100),
+        in_range(1, byte32(percent), 100),
     )
 }
 
@@ -109,17 +134,28 @@ fn points_ok(n: usize, np: usize, rights: &[u8], i: usize, r: RightRecord) -> bo
     both(each, percent_sum(rights, i, points) == 100)
 }
 
-fn returns_ok(n: usize, np: usize, rights: &[u8], i: usize, r: RightRecord) -> bool
+// The rules of what a diversion consumes and returns. One without return points consumes all.
+fn diversion_ok(n: usize, np: usize, rights: &[u8], i: usize, r: RightRecord) -> bool
     requires { ⌜ (i < rightCount (now rights)) × (r .points ≤ 4) ⌝ }
-    ensures { λ b. ⌜ b ≡ returnsOk n np (now (rights .entry)) i r ⌝ }
+    ensures { λ b. ⌜ b ≡ diversionOk n np (now (rights .entry)) i r ⌝ }
 {
-    if either(r.kind == 3, r.kind == 4) {
-        return both(both(r.efficiency == 0, r.pattern == 255), r.points == 0);
-    }
     if r.points == 0 {
         return both(r.efficiency == 100, r.pattern == 255);
     }
     points_ok(n, np, rights, i, r)
+}
+
+fn returns_ok(n: usize, np: usize, rights: &[u8], i: usize, r: RightRecord) -> bool
+    requires { ⌜ (i < rightCount (now rights)) × (r .points ≤ 4) ⌝ }
+    ensures { λ b. ⌜ b ≡ returnsOk (r .kind) n np (now (rights .entry)) i r ⌝ }
+{
+    let kind = r.kind;
+    match kind {
+        Kind::Direct | Kind::Project => diversion_ok(n, np, rights, i, r),
+        Kind::Instream | Kind::Storage => {
+            both(both(r.efficiency == 0, r.pattern == 255), r.points == 0)
+        }
+    }
 }
 
 // Whether pairs that are no return points are zero.
@@ -175,9 +211,12 @@ pub fn right_ok(
     requires { ⌜ (i < rightCount (now rights)) × TableFor (now stations) (now below) × GoodRows (now stations) (now reservoirs) ⌝ }
     ensures { λ b. ⌜ b ≡ rightOk (now (stations .entry)) (now (reservoirs .entry)) np (now (rights .entry)) i ⌝ }
 {
+    // The kind and the number of points are settled before any rule goes by them.
+    if !kind_known(rights, i) {
+        return false;
+    }
     let r = right_at(rights, i);
     let n = stations.len() / 8;
-    // The number of points is settled before the points are read.
     if !heading_ok(n, r) {
         return false;
     }

@@ -3,10 +3,10 @@ ghost use mathlib.Core.Path.{_≡_};
 ghost use Prim.Native.Nat.{_<_};
 ghost use Rattle.records.specs.Records.{rowsOf};
 ghost use Rattle.filerules.specs.FileRules.{numberRises, stationPlain};
-use layout::bytes::three_zeros;
-use layout::bytes::wide32;
-use layout::conditions::both;
-use layout::conditions::in_range;
+use numbers::both;
+use numbers::byte32;
+use numbers::bytes::three_zeros;
+use numbers::in_range;
 use records::stations::station_at;
 
 // The first row has none before it.
@@ -29,6 +29,6 @@ pub fn plain_ok(stations: &[u8], row: usize) -> bool
 {
     let x = station_at(stations, row);
     let numbered = both(in_range(1, x.number, 999999), number_rises(stations, row));
-    let ordered = both(numbered, in_range(1, wide32(x.order), 8));
+    let ordered = both(numbered, in_range(1, byte32(x.order), 8));
     both(ordered, three_zeros(stations, 8 * row + 5))
 }

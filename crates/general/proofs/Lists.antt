@@ -1,11 +1,11 @@
 -- Facts of getD and set that the library lacks. Assumes nothing.
-use mathlib.Core.Path.{_≡_, refl, sym, _∙_, subst}
+use mathlib.Core.Path.{_≡_, refl, sym, ap, _∙_, subst}
 use mathlib.Core.Bool.{Bool, true, false, cond}
 use mathlib.Core.List.{List, [], _∷_, _++_, map}
 use Prim.Native.Nat.{ℕ, zero, suc, _+_, _-_, _≤_, _<_}
 use native.Mathlib.Omega.{arith}
 use lib.Dec.{eqb}
-use lib.ListN.{length, getD, set, replicate}
+use lib.ListN.{length, getD, set, drop, replicate}
 use lib.Seq.{getD-set-same, getD-set-other, ext-getD}
 use Rattle.general.specs.Sums.{only}
 use Rattle.general.specs.Tables.{All}
@@ -34,6 +34,11 @@ pub getD-zeros : (n i : ℕ) → _≡_ {A = ℕ} (getD (replicate n 0) i 0) 0
 getD-zeros zero i = refl
 getD-zeros (suc n) zero = refl
 getD-zeros (suc n) (suc i) = getD-zeros n i
+
+pub getD-falses : (n i : ℕ) → _≡_ {A = Bool} (getD (replicate n false) i false) false
+getD-falses zero i = refl
+getD-falses (suc n) zero = refl
+getD-falses (suc n) (suc i) = getD-falses n i
 
 pub length-cond : {A : Type 0} (t : Bool) (x y : List A) (n : ℕ) → length x ≡ n → length y ≡ n → length (cond t x y) ≡ n
 length-cond true x y n e f = e
@@ -82,3 +87,35 @@ pub getD-map-in : {A B : Type 0} (f : A → B) (l : List A) (i : ℕ) (d : B) (e
 getD-map-in f [] i d e h = absurd (omega arith)
 getD-map-in f (x ∷ l) zero d e h = refl
 getD-map-in f (x ∷ l) (suc i) d e h = getD-map-in f l i d e (omega arith)
+
+-- ---- by where a place stands
+
+pub by-place : (m n : ℕ) (P : Type 0) → (m < n → P) → (n ≤ m → P) → P
+by-place m zero P f g = g (omega arith)
+by-place zero (suc n) P f g = f (omega arith)
+by-place (suc m) (suc n) P f g = by-place m n P (λ h. f (omega (arith, h))) (λ h. g (omega (arith, h)))
+
+-- ---- lists from a place on
+
+pub drop-at : {A : Type 0} (l : List A) (k : ℕ) (d : A) → k < length l → drop k l ≡ getD l k d ∷ drop (suc k) l
+drop-at [] k d h = absurd (omega arith)
+drop-at (x ∷ l) zero d h = refl
+drop-at (x ∷ l) (suc k) d h = drop-at l k d (omega arith)
+
+pub drop-next : {A : Type 0} (l : List A) (k : ℕ) (x : A) (r : List A) → drop k l ≡ x ∷ r → drop (suc k) l ≡ r
+drop-next [] zero x r e = absurd (omega (arith, ap length e))
+drop-next (y ∷ l) zero x r e = ap (drop 1) e
+drop-next [] (suc k) x r e = absurd (omega (arith, ap length e))
+drop-next (y ∷ l) (suc k) x r e = drop-next l k x r e
+
+pub drop-head : {A : Type 0} (l : List A) (k : ℕ) (x d : A) (r : List A) → drop k l ≡ x ∷ r → getD l k d ≡ x
+drop-head [] zero x d r e = absurd (omega (arith, ap length e))
+drop-head (y ∷ l) zero x d r e = ap (λ (z : List _). getD z 0 d) e
+drop-head [] (suc k) x d r e = absurd (omega (arith, ap length e))
+drop-head (y ∷ l) (suc k) x d r e = drop-head l k x d r e
+
+pub drop-all : {A : Type 0} (l : List A) (k : ℕ) → length l ≤ k → drop k l ≡ []
+drop-all [] zero h = refl
+drop-all [] (suc k) h = refl
+drop-all (x ∷ l) zero h = absurd (omega arith)
+drop-all (x ∷ l) (suc k) h = drop-all l k (omega arith)

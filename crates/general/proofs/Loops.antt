@@ -2,7 +2,8 @@
 use mathlib.Core.Path.{_≡_, refl, sym, ap, _∙_}
 use mathlib.Core.Bool.{Bool, true, false}
 use mathlib.Core.Option.{none, some}
-use Prim.Native.Nat.{ℕ, suc, _+_, _-_, _≤_, _<_}
+use Prim.Native.Nat.{ℕ, suc, _+_, _-_, _*_, _≤_, _<_}
+use native.Mathlib.Nat.{mul-le-mul, mul-suc}
 use native.Mathlib.Numerals.{add-one}
 use native.Mathlib.Omega.{arith}
 use Rattle.general.specs.Sums.{sumTo}
@@ -64,3 +65,12 @@ module _ (f : ℕ → ℕ) where
   pub total-more : (i s : ℕ) → s ≡ sumTo i f → s + f i ≡ sumTo (i + 1) f
   unfolding sumTo
   total-more i s e = rw (add-one i, e)
+
+-- ---- steps of one length
+
+-- each of n steps lies within them
+pub step-within : (step n k : ℕ) → k < n → step * k + step ≤ step * n
+step-within step n k h =
+    let e : step * suc k ≡ step * k + step = mul-suc step k in
+    let m : step * suc k ≤ step * n = mul-le-mul {n₁ = step} {m₁ = suc k} {n₂ = step} {m₂ = n} (omega arith) h in
+    omega arith

@@ -7,8 +7,8 @@ use mathlib.Core.Option.{Option, none, some}
 use Prim.Native.Nat.{ℕ, zero, suc, _+_, _≤_, _<_}
 use native.Mathlib.Omega.{arith}
 use lib.Dec.{eqb}
-use Rattle.general.specs.Tests.{_and_, has, firstAt, firstFault, allTo, isSome}
-use Rattle.general.proofs.Tests.{absurd-bool, eqb-same, eqb-other, by-eqb, both-of, and-of}
+use Rattle.general.specs.Tests.{has, firstAt, firstFault, allTo, isSome, _and_}
+use Rattle.general.proofs.Tests.{absurd-bool, eqb-same, eqb-other, by-eqb, both-of, and-of, and-true, and-three}
 
 -- ---- membership
 
@@ -92,3 +92,17 @@ pub all-at : (n : ℕ) (t : ℕ → Bool) → allTo n t ≡ true → (i : ℕ) �
 unfolding allTo
 all-at zero t e i h = absurd (omega arith)
 all-at (suc n) t e i h = by-eqb i n (λ _. t i ≡ true) (λ g. ap t g ∙ both-of e .1) (λ g. all-at n t (both-of e .0) i (omega arith))
+
+-- ---- a test of all numbers in two parts, and by another test that agrees
+
+pub all-parts : (n m : ℕ) (t : ℕ → Bool) → allTo (n + m) t ≡ (allTo n t and allTo m (λ j. t (n + j)))
+unfolding allTo
+all-parts n zero t = let e : n + 0 ≡ n = omega arith in ap (λ (k : ℕ). allTo k t) e ∙ sym (and-true (allTo n t))
+all-parts n (suc m) t =
+    let e : n + suc m ≡ suc (n + m) = omega arith in
+    ap (λ (k : ℕ). allTo k t) e ∙ ap (λ (x : Bool). x and t (n + m)) (all-parts n m t) ∙ and-three (allTo n t) (allTo m (λ j. t (n + j))) (t (n + m))
+
+pub all-same : (n : ℕ) (s t : ℕ → Bool) → ((i : ℕ) → i < n → s i ≡ t i) → allTo n s ≡ allTo n t
+unfolding allTo
+all-same zero s t h = refl
+all-same (suc n) s t h = λ z. all-same n s t (λ i l. h i (omega arith)) z and h n (omega arith) z

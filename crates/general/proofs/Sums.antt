@@ -1,5 +1,5 @@
 -- Laws of sums. Assumes nothing.
-use mathlib.Core.Path.{_≡_, refl, _∙_}
+use mathlib.Core.Path.{_≡_, refl, _∙_, ap}
 use mathlib.Core.Logic.{_≢_}
 use mathlib.Core.Bool.{Bool, true, false}
 use mathlib.Core.List.{List, [], _∷_, _++_, map}
@@ -112,3 +112,9 @@ pub sumToℤ-pos : (n : ℕ) (f : ℕ → ℤ) (g : ℕ → ℕ) → ((i : ℕ) 
 unfolding sumToℤ sumTo
 sumToℤ-pos zero f g h = refl
 sumToℤ-pos (suc n) f g h = rw (sumToℤ-pos n f g h, h n)
+
+-- a number of a sum is no more than the sum
+pub at-most-sum : (n : ℕ) (g : ℕ → ℕ) (j : ℕ) → j < n → g j ≤ sumTo n g
+unfolding sumTo
+at-most-sum zero g j h = absurd (omega arith)
+at-most-sum (suc n) g j h = by-eqb j n (λ _. g j ≤ sumTo n g + g n) (λ e. omega (arith, ap g e)) (λ e. omega (arith, at-most-sum n g j (omega (arith, e, h))))

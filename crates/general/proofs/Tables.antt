@@ -1,5 +1,5 @@
 -- Laws of tables. Assumes nothing.
-use mathlib.Core.Path.{_≡_, refl, sym, _∙_}
+use mathlib.Core.Path.{_≡_, refl, sym, ap, _∙_}
 use mathlib.Core.List.{List, [], _∷_, _++_}
 use Prim.Native.Nat.{ℕ, zero, suc, _+_, _≤_, _<_}
 use native.Mathlib.Numerals.{add-one}
@@ -44,3 +44,10 @@ pub sum-tab : (n : ℕ) (f : ℕ → ℕ) → sum (tab n f) ≡ sumTo n f
 unfolding tab sumTo sumOver
 sum-tab zero f = refl
 sum-tab (suc n) f = omega (arith, sum-append (λ x. x) (tab n f) (f n), sum-tab n f)
+
+pub tab-cons : {A : Type 0} (n : ℕ) (f : ℕ → A) → tab (suc n) f ≡ f 0 ∷ tab n (λ k. f (suc k))
+tab-cons n f = ext-getD (f 0) (tab (suc n) f) (f 0 ∷ tab n (λ k. f (suc k))) (tab-length f (suc n) ∙ ap suc (sym (tab-length (λ k. f (suc k)) n))) each
+  where
+    each : (i : ℕ) → i < length (tab (suc n) f) → getD (tab (suc n) f) i (f 0) ≡ getD (f 0 ∷ tab n (λ k. f (suc k))) i (f 0)
+    each zero h = tab-at f (suc n) 0 (f 0) (omega arith)
+    each (suc i) h = let o : suc i < suc n = omega (arith, h, tab-length f (suc n)) in tab-at f (suc n) (suc i) (f 0) o ∙ sym (tab-at (λ k. f (suc k)) n i (f 0) (omega (arith, o)))

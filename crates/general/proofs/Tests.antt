@@ -2,7 +2,7 @@
 use mathlib.Core.Path.{_≡_, refl, sym, subst}
 use mathlib.Core.Logic.{_≢_}
 use mathlib.Core.Bool.{Bool, true, false, not}
-use Prim.Native.Nat.{ℕ, _≤_, _<_}
+use Prim.Native.Nat.{ℕ, _+_, _≤_, _<_}
 use native.Mathlib.Omega.{arith}
 use lib.Dec.{T, leb, ltb, eqb, eqb→eq, eqb-refl, leb→le, le→leb, ltb→lt, lt→ltb, nltb→le}
 use lib.Arith.{le→nltb}
@@ -83,3 +83,25 @@ only-le false x = omega arith
 pub only-yes : (t : Bool) (x : ℕ) → t ≡ true → only t x ≡ x
 only-yes true x e = refl
 only-yes false x e = absurd-bool e refl
+
+pub only-same : (t : Bool) (x y : ℕ) → (t ≡ true → x ≡ y) → only t x ≡ only t y
+only-same true x y h = h refl
+only-same false x y h = refl
+
+pub and-true : (a : Bool) → (a and true) ≡ a
+unfolding _and_
+and-true true = refl
+and-true false = refl
+
+pub and-three : (a b c : Bool) → ((a and b) and c) ≡ (a and (b and c))
+unfolding _and_
+and-three true b c = refl
+and-three false b c = refl
+
+pub only-none : (t : Bool) → only t 0 ≡ 0
+only-none true = refl
+only-none false = refl
+
+pub only-sum : (s : Bool) (x y : ℕ) → only s (x + y) ≡ only s x + only s y
+only-sum true x y = refl
+only-sum false x y = refl

@@ -2,7 +2,7 @@
 use mathlib.Core.Bool.{Bool, true, false, not, _||_}
 use mathlib.Core.List.{List, [], _∷_}
 use mathlib.Core.Option.{Option, none, some}
-use Prim.Native.Nat.{ℕ, zero, suc}
+use Prim.Native.Nat.{ℕ, zero, suc, _/_, _%_, _^_}
 use lib.Dec.{leb, eqb}
 
 infixl 35 _and_
@@ -14,6 +14,10 @@ false and b = false
 -- a ≤ x ≤ c
 unfoldable pub between : ℕ → ℕ → ℕ → Bool
 between a x c = leb a x and leb x c
+
+-- whether bit i of a word is set
+unfoldable pub bit : ℕ → ℕ → Bool
+bit w i = eqb (w / 2 ^ i % 2) 1
 
 -- whether the list holds the number
 unfoldable pub has : ℕ → List ℕ → Bool

@@ -6,7 +6,7 @@ use mathlib.Core.Path.{_≡_, refl, sym, ap, _∙_}
 use Prim.Native.Nat.{ℕ, _*_, _≤_, _<_, min}
 use native.Mathlib.Nat.{le-refl}
 use native.Mathlib.Omega.{arith}
-use lib.Dec.{ltb, eqb}
+use lib.Dec.{ltb}
 use lib.ListN.{getD}
 use Rattle.general.specs.Tests.{has}
 use Rattle.general.proofs.Search.{has-head, has-tail, has-other, has-none}
@@ -14,7 +14,9 @@ use Rattle.general.proofs.Tables.{tab-at}
 use Rattle.general.proofs.Tests.{absurd-bool, by-eqb, lt-of, not-lt-of}
 use Rattle.rules.specs.Basin.{Station, noStation}
 use Rattle.rules.specs.Turn.{anyOn, numberAt}
-use Rattle.layout.specs.Bytes.{le32At}
+use Rattle.numbers.specs.Bytes.{le32At}
+use Rattle.records.specs.declared.rights.Kind.{Kind}
+use Rattle.records.specs.declared.rights.Kind.the-variants.{Direct, Project, Instream, Storage}
 use Rattle.records.specs.Records.{rowsOf, stationRecord, stationOf, stationsOf}
 use Rattle.river.specs.declared.Seen.{Seen}
 use Rattle.river.specs.declared.Seen.the-variants as seen
@@ -25,6 +27,7 @@ use Rattle.river.proofs.Table.{by-in}
 use Rattle.grants.specs.declared.grants.Reason.{Reason}
 use Rattle.grants.specs.declared.grants.Reason.the-variants.{Called, RiverLow}
 use Rattle.grants.specs.Grants.{CanSee, seenBy, partOf, reasonOf, RiverGave}
+use Rattle.grants.specs.Stages.{isInstream}
 
 pub number-is : (s : List ℕ) (row : ℕ) → row < rowsOf s → numberAt (stationsOf s) row ≡ le32At s (8 * row)
 unfolding numberAt stationsOf stationOf stationRecord
@@ -115,24 +118,31 @@ module _ (st t a : List ℕ) (sh : List Bool) (row : ℕ) (o : CanSee st t row) 
 
 -- ---- what the code answers
 
+-- a right that is not instream looks down its path
+pub seen-along : (k : Kind) (t a : List ℕ) (sh : List Bool) (row : ℕ) → isInstream k ≡ false → seenBy k t a sh row ≡ seenOn sh a row (pathBy t row)
+seen-along Direct t a sh row e = refl
+seen-along Project t a sh row e = refl
+seen-along Instream t a sh row e = absurd-bool refl e
+seen-along Storage t a sh row e = refl
+
 part-zero : (a : List ℕ) (s : Seen) → 0 ≡ partOf a 0 s
 unfolding partOf
 part-zero a (seen.Called q) = refl
 part-zero a (seen.Low q) = omega arith
 
-module _ (st t a : List ℕ) (sh : List Bool) (kind row demand : ℕ) where
+module _ (st t a : List ℕ) (sh : List Bool) (kind : Kind) (row demand : ℕ) where
   pub gave-nothing : demand ≡ 0 → (r : Reason) → RiverGave st t a sh kind row demand (record { part = 0; reason = r })
-  gave-nothing e r = record { part = rw e (part-zero a (seenBy t a sh kind row)); reason = λ l. absurd (omega arith) }
+  gave-nothing e r = record { part = rw e (part-zero a (seenBy kind t a sh row)); reason = λ l. absurd (omega arith) }
 
-  pub gave-instream : (x n : ℕ) → kind ≡ 3 → x ≡ min demand (getD a row 0) → n ≡ numberAt (stationsOf st) row → RiverGave st t a sh kind row demand (record { part = x; reason = RiverLow n })
+  pub gave-instream : (x n : ℕ) → kind ≡ Instream → x ≡ min demand (getD a row 0) → n ≡ numberAt (stationsOf st) row → RiverGave st t a sh kind row demand (record { part = x; reason = RiverLow n })
   unfolding partOf reasonOf
   gave-instream x n k e f = record { part = rw k e; reason = λ _. rw k (ap (λ (y : ℕ). RiverLow y) f) }
 
-  module _ (k : eqb kind 3 ≡ false) (s : Seen) (look : s ≡ seenOn sh a row (pathBy t row)) where
+  module _ (k : isInstream kind ≡ false) (s : Seen) (look : s ≡ seenOn sh a row (pathBy t row)) where
     pub gave-called : (q n : ℕ) → s ≡ seen.Called q → n ≡ numberAt (stationsOf st) q → RiverGave st t a sh kind row demand (record { part = 0; reason = Called n })
     unfolding partOf reasonOf
-    gave-called q n e f = record { part = rw (k, ← look, e); reason = λ _. rw (k, ← look, e) (ap (λ (y : ℕ). Called y) f) }
+    gave-called q n e f = record { part = rw (seen-along kind t a sh row k, ← look, e); reason = λ _. rw (seen-along kind t a sh row k, ← look, e) (ap (λ (y : ℕ). Called y) f) }
 
     pub gave-low : (q n x : ℕ) → s ≡ seen.Low q → x ≡ min demand (getD a q 0) → n ≡ numberAt (stationsOf st) q → RiverGave st t a sh kind row demand (record { part = x; reason = RiverLow n })
     unfolding partOf reasonOf
-    gave-low q n x e g f = record { part = rw (k, ← look, e) g; reason = λ _. rw (k, ← look, e) (ap (λ (y : ℕ). RiverLow y) f) }
+    gave-low q n x e g f = record { part = rw (seen-along kind t a sh row k, ← look, e) g; reason = λ _. rw (seen-along kind t a sh row k, ← look, e) (ap (λ (y : ℕ). RiverLow y) f) }

@@ -1,12 +1,12 @@
 // A grant with its reason, and what the river gives.
 ghost use mathlib.Core.Path.{_≡_};
-ghost use Prim.Native.Nat.{_≤_, _<_};
-ghost use lib.ListN.{length};
+ghost use Prim.Native.Nat.{_<_};
 ghost use Rattle.rules.specs.Turn.{numberAt};
 ghost use Rattle.records.specs.Records.{rowsOf, stationsOf};
 ghost use Rattle.grants.specs.Grants.{CanSee, RiverGave};
-use layout::bytes::le32;
-use returns::numbers::lesser;
+use numbers::bytes::le32;
+use numbers::lesser;
+use records::rights::Kind;
 use river::Seen;
 use river::look;
 
@@ -44,7 +44,7 @@ pub fn river_part(
     below: &[u8; 64],
     available: &[u64; 64],
     short: &[bool; 64],
-    kind: u8,
+    kind: Kind,
     row: usize,
     demand: u64,
 ) -> RiverPart
@@ -57,7 +57,7 @@ pub fn river_part(
             reason: Reason::Met,
         };
     }
-    if kind == 3 {
+    if let Kind::Instream = kind {
         return RiverPart {
             part: lesser(demand, available[row]),
             reason: Reason::RiverLow(station_number(stations, row)),

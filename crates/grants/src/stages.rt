@@ -2,34 +2,26 @@
 ghost use mathlib.Core.Path.{_≡_};
 ghost use mathlib.Core.Bool.{not};
 ghost use Prim.Native.Nat.{_+_, _≤_, _<_, _^_, min};
-ghost use lib.ListN.{length, getD};
+ghost use lib.ListN.{length};
 ghost use Rattle.general.specs.Sums.{only};
-ghost use Rattle.records.specs.Records.{rightCount, rightRecord, kindOf};
-ghost use Rattle.grants.specs.Stages.{isStorage, amountIn, askOf, RoomLeft, askIn, CanAsk, CanTake, Taken, capacityIn, poured, CanPour, boardStored, CanFill, CanDraw, Drawn};
-use layout::bytes::index;
-use layout::bytes::le32;
+ghost use Rattle.places.specs.Board.{boardLength};
+ghost use Rattle.records.specs.Records.{rightCount, rightRecord};
+ghost use Rattle.grants.specs.Stages.{amountIn, askOf, RoomLeft, askIn, CanAsk, CanTake, Taken, capacityIn, poured, CanPour, boardStored, CanFill, CanDraw, Drawn};
+use numbers::bit_of;
+use numbers::bytes::le32;
+use numbers::index;
+use numbers::lesser;
+use numbers::wide_size;
+use numbers::wide16;
+use numbers::wide32;
+use places::board::MARKS;
+use places::board::storage_place;
+use places::board::taken_place;
 use records::reservoirs::reservoir_at;
+use records::rights::Kind;
 use records::rights::RightRecord;
-use returns::numbers::bit_of;
-use returns::numbers::lesser;
-use returns::numbers::wide_size;
-use returns::numbers::wide16;
-use returns::numbers::wide32;
 use river::divert;
 use river::release;
-
-// Whether a kind is that of a storage right.
-fn is_storage(kind: u8) -> bool
-    ensures { λ r. ⌜ r ≡ isStorage (kindOf kind) ⌝ }
-{
-    if kind == 1 {
-        return false;
-    }
-    if kind == 2 {
-        return false;
-    }
-    kind != 3
-}
 
 // The amount of month m, if that month is in use.
 fn scheduled(rights: &[u8], i: usize, right: RightRecord, m: usize) -> u64
@@ -54,14 +46,14 @@ fn storage_demand(amount: u64, marked: bool, limit_left: u64, capacity_left: u64
 
 // What a storage right asks for, of an amount scheduled.
 fn storage_ask(reservoirs: &[u8], i: usize, right: RightRecord, amount: u64, board: &[u64]) -> u64
-    requires { ⌜ (i < 256) × (length (now board) ≡ 970) × RoomLeft (now reservoirs) right i (now board) ⌝ }
+    requires { ⌜ (i < 256) × (length (now board) ≡ boardLength) × RoomLeft (now reservoirs) right i (now board) ⌝ }
     ensures { λ r. ⌜ r ≡ askOf (now (reservoirs .entry)) right i amount (now (board .entry)) ⌝ }
 {
     let v = index(right.reservoir);
-    let lake = reservoir_at(reservoirs, v);
-    let limit_left = wide32(right.limit) - board[10 + i];
-    let capacity_left = wide32(lake.capacity) - board[1 + v];
-    let marked = bit_of(board[9], wide_size(v));
+    let reservoir = reservoir_at(reservoirs, v);
+    let limit_left = wide32(right.limit) - board[taken_place(i)];
+    let capacity_left = wide32(reservoir.capacity) - board[storage_place(v)];
+    let marked = bit_of(board[MARKS], wide_size(v));
     storage_demand(amount, marked, limit_left, capacity_left)
 }
 
@@ -75,13 +67,14 @@ pub fn demand_of(
     board: &[u64],
 ) -> u64
     requires { ⌜ (right ≡ rightRecord (now rights) i) × CanAsk (now reservoirs) (now rights) i m (now board) ⌝ }
-    ensures { λ r. ⌜ r ≡ askIn (kindOf (right .kind)) (now (reservoirs .entry)) (now (rights .entry)) i m (now (board .entry)) ⌝ }
+    ensures { λ r. ⌜ r ≡ askIn (right .kind) (now (reservoirs .entry)) (now (rights .entry)) i m (now (board .entry)) ⌝ }
 {
     let amount = scheduled(rights, i, right, m);
-    if is_storage(right.kind) {
-        return storage_ask(reservoirs, i, right, amount, board);
+    let kind = right.kind;
+    match kind {
+        Kind::Direct | Kind::Project | Kind::Instream => amount,
+        Kind::Storage => storage_ask(reservoirs, i, right, amount, board),
     }
-    amount
 }
 
 // The river part d leaves the river: an instream right's the available flow at its row alone, another's flow and available flow along the path. A part of nothing is no work.
@@ -89,7 +82,7 @@ pub fn take(
     below: &[u8; 64],
     flow: &mut [u64; 64],
     available: &mut [u64; 64],
-    kind: u8,
+    kind: Kind,
     row: usize,
     d: u64,
 )
@@ -99,7 +92,7 @@ pub fn take(
     if d == 0 {
         return;
     }
-    if kind == 3 {
+    if let Kind::Instream = kind {
         available[row] = available[row] - d;
         return;
     }
@@ -111,26 +104,28 @@ fn pour(reservoirs: &[u8], board: &mut [u64], v: usize, i: usize, d: u64)
     requires { ⌜ CanPour (now reservoirs) v i d (now board) ⌝ }
     ensures { λ _. ⌜ now (board .exit) ≡ poured (capacityIn (now (reservoirs .entry)) v) v i d (now (board .entry)) ⌝ }
 {
-    let lake = reservoir_at(reservoirs, v);
-    let held = board[1 + v] + d;
-    let taken = board[10 + i] + d;
-    board[1 + v] = held;
-    board[10 + i] = taken;
+    let reservoir = reservoir_at(reservoirs, v);
+    let storage = storage_place(v);
+    let taken = taken_place(i);
+    let held = board[storage] + d;
+    let total = board[taken] + d;
+    board[storage] = held;
+    board[taken] = total;
     if d == 0 {
         return;
     }
-    if held != wide32(lake.capacity) {
+    if held != wide32(reservoir.capacity) {
         return;
     }
-    board[9] = board[9] + power(wide_size(v));
+    board[MARKS] = board[MARKS] + power(wide_size(v));
 }
 
 // A storage right stores its part; for other kinds nothing happens.
-pub fn fill(reservoirs: &[u8], board: &mut [u64], kind: u8, v: usize, i: usize, d: u64)
+pub fn fill(reservoirs: &[u8], board: &mut [u64], kind: Kind, v: usize, i: usize, d: u64)
     requires { ⌜ CanFill kind (now reservoirs) v i d (now board) ⌝ }
-    ensures { λ _. ⌜ now (board .exit) ≡ boardStored (kindOf kind) (capacityIn (now (reservoirs .entry)) v) v i d (now (board .entry)) ⌝ }
+    ensures { λ _. ⌜ now (board .exit) ≡ boardStored kind (capacityIn (now (reservoirs .entry)) v) v i d (now (board .entry)) ⌝ }
 {
-    if is_storage(kind) {
+    if let Kind::Storage = kind {
         pour(reservoirs, board, v, i, d);
     }
 }
@@ -150,7 +145,7 @@ pub fn draw(
     reservoirs: &[u8],
     flow: &mut [u64; 64],
     board: &mut [u64],
-    kind: u8,
+    kind: Kind,
     v: usize,
     row: usize,
     lacking: u64,
@@ -158,16 +153,17 @@ pub fn draw(
     requires { ⌜ CanDraw kind (now below) (now reservoirs) v lacking (now flow) (now board) ⌝ }
     ensures { λ x. ⌜ Drawn kind (now (below .entry)) (now (reservoirs .entry)) v row lacking (now (flow .entry)) (now (board .entry)) (now (flow .exit)) (now (board .exit)) x ⌝ }
 {
-    if kind != 2 {
+    let Kind::Project = kind else {
         return 0;
-    }
-    let held = board[1 + v];
+    };
+    let storage = storage_place(v);
+    let held = board[storage];
     let x = lesser(lacking, held);
     if x == 0 {
         return 0;
     }
-    board[1 + v] = held - x;
-    let lake = reservoir_at(reservoirs, v);
-    release(below, flow, index(lake.row), row, x);
+    board[storage] = held - x;
+    let reservoir = reservoir_at(reservoirs, v);
+    release(below, flow, index(reservoir.row), row, x);
     x
 }

@@ -5,68 +5,66 @@ use mathlib.Core.List.{List, [], _∷_, map}
 use mathlib.Core.Option.{Option, none, some}
 use Prim.Native.Nat.{ℕ}
 use lib.ListN.{length}
-use Rattle.general.specs.Tests.{_and_, has}
-use Rattle.general.proofs.Tests.{eqb-same}
+use Rattle.general.specs.Tests.{has}
+use Rattle.general.proofs.Tests.{eqb-same, and-true}
 use Rattle.rules.specs.Basin.{Basin}
-use Rattle.rules.specs.Month.{MonthRun, month, shortCount}
-use Rattle.rules.specs.Tally.{Call, Answer, overLimit, overAnswer, judged, refusal, Start, Tally, begun, pending, nextRun, standing, afterJudged, afterCall, afterCalls, answerJudged, answerOf}
+use Rattle.rules.specs.Month.{MonthRun, shortCount, grantAt}
+use Rattle.rules.specs.Tally.{Call, listsFit, overLimit, overAnswer, judged, refusal, Start, Tally, begun, pending, nextRun, standing, afterJudged, afterCall, afterCalls, answerJudged, answerOf}
+use Rattle.rules.specs.Answers.{Answer}
 use Rattle.rules.specs.Water.{MonthSound}
 use Rattle.rules.specs.Accepted.{Accepted}
 use Rattle.rules.specs.Theorems.{Possible}
 use Rattle.rules.proofs.Possible.{begun-possible, call-possible}
 use Rattle.rules.proofs.Theorems.{water, checkpoints}
-use Rattle.basin.specs.declared.Verdict.the-variants.{Accepted as AcceptedFile}
+use Rattle.rules.specs.declared.Verdict.the-variants.{Accepted as AcceptedFile, Lists}
 use Rattle.records.specs.Records.{basinOf}
-use Rattle.basin.specs.Check.{checkOf}
+use Rattle.filecheck.specs.Check.{checkOf}
 use Rattle.boards.specs.Board.{possible}
-use Rattle.boards.specs.Report.{grantAt, reportOf, nameIn}
-use Rattle.boards.specs.Calls.{verdictRefusal, fileRefusal, orElse, unless, boardFits, listsFit, freshRefusal, monthRefusal, freshBoard, freshSettled, freshOf, runOf, Outcome, monthSettled, monthOf, NamesAllowed, MonthMeets}
+use Rattle.boards.specs.Report.{reportOf}
+use Rattle.places.specs.Report.{nameIn}
+use Rattle.places.specs.Board.{boardLength}
+use Rattle.answers.specs.Answers.{orElse, unless, lentRefusal}
+use Rattle.answers.proofs.Answers.{no-refusal}
+use Rattle.month.specs.Month.{callWith, allFit, monthRefusal, runOf, Outcome, monthSettled, monthOf, NamesAllowed, MonthMeets}
+use Rattle.fresh.specs.Fresh.{freshRefusal, freshBoard, freshSettled, freshOf}
 use Rattle.ledger.specs.Account.{Event, callOf, Run, boardLeft, ReportOk, startOf, tallyBoard, Follows, AllFollow, Accounted, FreshBoard}
 use Rattle.boards.proofs.Board.{board-length}
-use Rattle.ledger.proofs.Tally.{tally-possible, tally-run, tally-next, start-possible, tally-begins, fresh-size, fresh-can, fresh-starts}
+use Rattle.ledger.proofs.Tally.{tally-possible, tally-run, tally-next, start-possible, tally-begins, fresh-starts}
+use Rattle.fresh.proofs.Start.{fresh-size, fresh-can}
 use Rattle.ledger.proofs.Telling.{tells}
-use Rattle.rules.specs.Tally as tally
 
 -- ---- refusals: on the tally's board a month is refused just where the tally refuses it
 
-and-true : (t : Bool) → (t and true) ≡ t
-unfolding _and_
-and-true true = refl
-and-true false = refl
-
-file-accepted : (f : List ℕ) → checkOf f ≡ AcceptedFile → fileRefusal f ≡ none
-unfolding fileRefusal verdictRefusal
-file-accepted f e = rw e
-
-or-none : (x y : Option Answer) → x ≡ none → orElse x y ≡ y
-unfolding orElse
-or-none x y e = rw e
-
-settled-six : (t : Bool) (runoff : List ℕ) → orElse (unless t 6) (overAnswer (overLimit runoff)) ≡ judged t runoff
+settled-lists : (t : Bool) (runoff : List ℕ) → orElse (unless t Lists) (overAnswer (overLimit runoff)) ≡ judged t runoff
 unfolding orElse unless judged
-settled-six true runoff = refl
-settled-six false runoff = refl
+settled-lists true runoff = refl
+settled-lists false runoff = refl
 
-unless-yes : (t : Bool) (n : ℕ) → t ≡ true → unless t n ≡ none
-unfolding unless
-unless-yes t n e = rw e
+-- on an accepted file and a possible board only the lists are left to ask of what is lent
+lent-lists : (f board : List ℕ) (fits : Bool) → checkOf f ≡ AcceptedFile → possible (basinOf f) board ≡ true → lentRefusal f fits board ≡ unless fits Lists
+unfolding lentRefusal orElse unless
+lent-lists f board true acc can = rw (no-refusal f acc, can)
+lent-lists f board false acc can = rw (no-refusal f acc)
 
-lists-same : (b : Basin) (runoff board report : List ℕ) → length board ≡ 970 → listsFit b runoff board report ≡ tally.listsFit b (record { runoff = runoff; report = length report })
-unfolding listsFit tally.listsFit
-lists-same b runoff board report e = rw (e, eqb-same 970) (and-true _)
+lists-same : (b : Basin) (runoff board report : List ℕ) → length board ≡ boardLength → allFit b runoff board report ≡ listsFit b (callWith runoff report)
+unfolding allFit
+lists-same b runoff board report e = rw (e, eqb-same boardLength) (and-true _)
 
-same-refusal : (f runoff board report : List ℕ) → checkOf f ≡ AcceptedFile → length board ≡ 970 → possible (basinOf f) board ≡ true
-    → monthRefusal f runoff board report ≡ refusal (basinOf f) (record { runoff = runoff; report = length report })
+same-refusal : (f runoff board report : List ℕ) → checkOf f ≡ AcceptedFile → length board ≡ boardLength → possible (basinOf f) board ≡ true
+    → monthRefusal f runoff board report ≡ refusal (basinOf f) (callWith runoff report)
 unfolding monthRefusal refusal
 same-refusal f runoff board report e n p =
-    or-none (fileRefusal f) _ (file-accepted f e)
-    ∙ ap (λ (x : Option Answer). orElse (unless (listsFit (basinOf f) runoff board report) 6) x) (or-none (unless (possible (basinOf f) board) 7) _ (unless-yes _ 7 p))
-    ∙ settled-six (listsFit (basinOf f) runoff board report) runoff
+    ap (λ (x : Option Answer). orElse x (overAnswer (overLimit runoff))) (lent-lists f board (allFit (basinOf f) runoff board report) e p)
+    ∙ settled-lists (allFit (basinOf f) runoff board report) runoff
     ∙ ap (λ (t : Bool). judged t runoff) (lists-same (basinOf f) runoff board report n)
 
-tally-length : (b : Basin) (t : Tally) → length (tallyBoard b t) ≡ 970
+tally-length : (b : Basin) (t : Tally) → length (tallyBoard b t) ≡ boardLength
 unfolding tallyBoard
 tally-length b t = board-length b (t .carried) (pending b (t .start) (t .months))
+
+fresh-clear : (f board : List ℕ) → checkOf f ≡ AcceptedFile → length board ≡ boardLength → freshRefusal f board ≡ none
+unfolding freshRefusal orElse unless
+fresh-clear f board ok n = rw (no-refusal f ok, n)
 
 fresh-given : (f l : List ℕ) → (freshSettled none f l) .board ≡ freshBoard (basinOf f)
 unfolding freshSettled
@@ -97,7 +95,7 @@ module _ (f : List ℕ) (ok : checkOf f ≡ AcceptedFile) (acc : Accepted (basin
         ap (λ (o : Outcome). o .answer) q ∙ ap (λ (r : MonthRun). record { number = 0; place = shortCount (r .turns) }) run,
         tells b acc t p c w names (e .report) ((e .outcome) .report) refl
             (ap (λ (o : Outcome). o .report) q ∙ ap (λ (r : MonthRun). reportOf b r names (e .report)) run)
-            (λ i l. subst (λ (r : MonthRun). has (nameIn ((e .outcome) .report) i) ((grantAt r i) .stations) ≡ true) run (h i l)),
+            (λ i l. subst (λ (r : MonthRun). has (nameIn ((e .outcome) .report) i) ((grantAt (r .turns) i) .stations) ≡ true) run (h i l)),
         ap (λ (o : Outcome). o .board) q ∙ tally-next b acc t p c,
       )
   settled t p e (some a) names w q h = (ap (λ (o : Outcome). o .answer) q, ap (λ (o : Outcome). o .report) q, ap (λ (o : Outcome). o .board) q)
@@ -120,7 +118,7 @@ module _ (f : List ℕ) (ok : checkOf f ≡ AcceptedFile) (acc : Accepted (basin
       let h : Follows (basinOf f) t e = follow t p e (r .0) in
       (h, all-follow (afterCall (basinOf f) t (callOf e)) (call-possible (basinOf f) acc t (callOf e) p) es (subst (λ (l : List ℕ). Run f l es) (h .board) (r .1)))
 
-  pub accounted : (board : List ℕ) → length board ≡ 970 → possible (basinOf f) board ≡ true → (es : List Event) → Run f board es → Accounted f board (startOf (basinOf f) board) es
+  pub accounted : (board : List ℕ) → length board ≡ boardLength → possible (basinOf f) board ≡ true → (es : List Event) → Run f board es → Accounted f board (startOf (basinOf f) board) es
   accounted board n can es r =
       let b : Basin = basinOf f in
       let s : Start = startOf b board in
@@ -129,22 +127,22 @@ module _ (f : List ℕ) (ok : checkOf f ≡ AcceptedFile) (acc : Accepted (basin
       let h : AllFollow b (begun s) es = all-follow (begun s) (begun-possible b s p) es (subst (λ (l : List ℕ). Run f l es) begins r) in
       record { follows = h; left = left-by b (begun s) board es begins h; water = water b acc s p (map callOf es) }
 
-  pub board-checkpoints : (board runoff : List ℕ) → length board ≡ 970 → possible (basinOf f) board ≡ true → MonthSound (basinOf f) (runOf (basinOf f) runoff board)
+  pub board-checkpoints : (board runoff : List ℕ) → length board ≡ boardLength → possible (basinOf f) board ≡ true → MonthSound (basinOf f) (runOf (basinOf f) runoff board)
   unfolding runOf startOf
   board-checkpoints board runoff n can = checkpoints (basinOf f) acc (startOf (basinOf f) board) (start-possible (basinOf f) acc board n can) runoff
 
   -- ---- the fresh board
 
-  fresh-board : (board : List ℕ) → length board ≡ 970 → (freshOf f board) .board ≡ freshBoard (basinOf f)
+  fresh-board : (board : List ℕ) → length board ≡ boardLength → (freshOf f board) .board ≡ freshBoard (basinOf f)
   unfolding freshOf freshRefusal
   fresh-board board n =
-      let e : orElse (fileRefusal f) (unless (boardFits board) 6) ≡ none = or-none (fileRefusal f) _ (file-accepted f ok) ∙ unless-yes (boardFits board) 6 (rw n (eqb-same 970)) in
+      let e : freshRefusal f board ≡ none = fresh-clear f board ok n in
       ap (λ (v : Option Answer). (freshSettled v f board) .board) e ∙ given board
     where
       given : (l : List ℕ) → (freshSettled none f l) .board ≡ freshBoard (basinOf f)
       given l = fresh-given f l
 
-  pub fresh-facts : (board : List ℕ) → length board ≡ 970 → FreshBoard f board
+  pub fresh-facts : (board : List ℕ) → length board ≡ boardLength → FreshBoard f board
   fresh-facts board n =
       let b : Basin = basinOf f in
       let e : (freshOf f board) .board ≡ freshBoard b = fresh-board board n in

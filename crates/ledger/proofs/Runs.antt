@@ -5,15 +5,16 @@ use mathlib.Core.List.{List, [], _∷_, map}
 use mathlib.Core.Option.{Option, none, some}
 use Prim.Native.Nat.{ℕ}
 use Rattle.general.specs.Tests.{has}
-use Rattle.rules.specs.Month.{MonthRun, shortCount}
-use Rattle.rules.specs.Tally.{Answer}
+use Rattle.rules.specs.Month.{MonthRun, shortCount, grantAt}
+use Rattle.rules.specs.Answers.{Answer}
 use Rattle.rules.specs.Accepted.{Accepted}
 use Rattle.records.specs.Records.{basinOf}
-use Rattle.boards.specs.Report.{grantAt, reportOf, nameIn}
-use Rattle.boards.proofs.Names.{firstNames, run-named}
-use Rattle.boards.specs.Calls.{monthRefusal, runOf, boardAfter, monthSettled, monthOf, NamesAllowed, MonthMeets}
+use Rattle.boards.specs.Report.{reportOf}
+use Rattle.places.specs.Report.{nameIn}
+use Rattle.month.proofs.Names.{firstNames, run-named}
+use Rattle.month.specs.Month.{monthRefusal, runOf, boardAfter, monthSettled, monthOf, NamesAllowed, MonthMeets}
 use Rattle.ledger.specs.Account.{Event, Run}
-use Rattle.monthrun.proofs.Report.{name-place, report-same}
+use Rattle.boards.proofs.Report.{name-place, report-same}
 
 module _ (f : List ℕ) (acc : Accepted (basinOf f)) (runoff board report : List ℕ) where
   abbrev names : ℕ → ℕ
@@ -32,7 +33,7 @@ module _ (f : List ℕ) (acc : Accepted (basinOf f)) (runoff board report : List
   unfolding monthSettled
   engine-names none = λ i l.
       let h : MonthRun = runOf (basinOf f) runoff board in
-      subst (λ (x : ℕ). has x ((grantAt h i) .stations) ≡ true) (sym (name-place (basinOf f) h names report i l)) (run-named (basinOf f) acc runoff board i l)
+      subst (λ (x : ℕ). has x ((grantAt (h .turns) i) .stations) ≡ true) (sym (name-place (basinOf f) h names report i l)) (run-named (basinOf f) acc runoff board i l)
   engine-names (some a) = tt
 
   engine-meets : MonthMeets f runoff board report (monthOf f runoff board report names)

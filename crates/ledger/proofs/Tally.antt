@@ -1,31 +1,33 @@
 -- The board that the tally keeps: it is possible, runs the tally's month, and becomes the tally's next board; and a possible board is that of the tally
 -- that begins from it. Assumes nothing.
 use mathlib.Core.Path.{_≡_, refl, sym, ap, _∙_}
-use mathlib.Core.Bool.{Bool, true, false}
+use mathlib.Core.Bool.{true}
 use mathlib.Core.List.{List, [], _∷_, _++_}
-use Prim.Native.Nat.{ℕ, zero, suc, _+_, _-_, _*_, _/_, _≤_, _<_}
+use Prim.Native.Nat.{ℕ, zero, suc, _+_, _-_, _≤_, _<_}
 use native.Mathlib.Omega.{arith}
 use native.Mathlib.Decide.{decLt}
 use lib.Dec.{ltb}
 use lib.ListN.{length, getD, List·getD-eq-default}
 use Rattle.general.specs.Sums.{only}
 use Rattle.general.specs.Tables.{tab}
-use Rattle.general.proofs.Tests.{ltb-yes, ltb-no, only-le, eqb-other}
+use Rattle.general.proofs.Tests.{ltb-yes, ltb-no, only-le}
 use Rattle.general.proofs.Tables.{tab-length, tab-at, tab-past, tab-same}
 use Rattle.rules.specs.Basin.{Basin, rows, reservoirAt, rightAt}
-use Rattle.rules.specs.Turn.{bit}
+use Rattle.general.specs.Tests.{bit}
 use Rattle.rules.specs.Month.{MonthRun, month}
 use Rattle.rules.specs.Tally.{Call, Tally, freshCarried, freshStart, begun, pending, arriving, nextRun, accept, standing}
 use Rattle.rules.specs.Accepted.{Accepted}
 use Rattle.rules.specs.Theorems.{mostDue, Possible}
 use Rattle.rules.proofs.Possible.{capped-of, fresh-possible}
 use Rattle.rules.proofs.Pending.{pending-on, pending-ends, pending-begins}
-use Rattle.boards.specs.Board.{storageAt, marksAt, takenAt, dueAt, carriedOf, placeOf, boardOf, possible}
-use Rattle.boards.specs.Calls.{freshBoard, runOf, dueAfter, boardAfter}
+use Rattle.places.specs.Board.{duePlace, boardLength, storageAt, marksAt, takenAt, dueAt}
+use Rattle.boards.specs.Board.{carriedOf, boardOf, possible}
+use Rattle.fresh.specs.Fresh.{freshBoard}
+use Rattle.month.specs.Month.{runOf, dueAfter, boardAfter}
 use Rattle.ledger.specs.Account.{startOf, tallyBoard}
 use Rattle.boards.proofs.Bounds as held
-use Rattle.boards.proofs.Board.{Counted, board-length, due-of-row, read-back, board-same}
-use Rattle.monthrun.proofs.Closing.{board-by-parts, word-bits}
+use Rattle.boards.proofs.Board.{Counted, board-length, due-of-row, read-back, board-same, board-told, due-none}
+use Rattle.month.proofs.Closing.{word-bits}
 
 written : (b : Basin) (t : Tally) → boardOf b (t .carried) (pending b (t .start) (t .months)) ≡ tallyBoard b t
 unfolding tallyBoard
@@ -84,13 +86,13 @@ tab-within n f most h i = pick (decLt i n)
     pick (yes l) = omega (arith, tab-at f n i 0 l, h i l)
     pick (no l) = omega (arith, tab-past f n i 0 (omega arith))
 
-module _ (b : Basin) (acc : Accepted b) (l : List ℕ) (size : length l ≡ 970) (can : possible b l ≡ true) where
+module _ (b : Basin) (acc : Accepted b) (l : List ℕ) (size : length l ≡ boardLength) (can : possible b l ≡ true) where
   due-within : (w k : ℕ) → k < 11 → dueAt l w (suc k) ≤ mostDue (suc k)
   due-within w k h = pick (decLt w 64)
     where
       pick : Dec (w < 64) → dueAt l w (suc k) ≤ mostDue (suc k)
       pick (yes m) = omega (arith, held.due-most b l can w k m h, only-le (ltb w (rows b)) (mostDue (suc k)))
-      pick (no m) = omega (arith, List·getD-eq-default l 0 {n = 266 + 11 * w + (suc k - 1)} (omega (arith, size)))
+      pick (no m) = omega (arith, List·getD-eq-default l 0 {n = duePlace w k} (omega (arith, size)))
 
   pub start-possible : Possible b (startOf b l)
   unfolding startOf carriedOf
@@ -125,11 +127,14 @@ module _ (b : Basin) (acc : Accepted b) (l : List ℕ) (size : length l ≡ 970)
 
   written-back : l ≡ boardOf b (carriedOf b l) (dueAt l)
   unfolding carriedOf
-  written-back = board-by-parts b (carriedOf b l) (dueAt l) l size refl
-      (entry (length (b .reservoirs)) 8 (storageAt l) (λ v h o. held.no-storage b l can v h o))
-      (sym (word-bits (length (b .reservoirs)) (marksAt l) (held.marks-most b l can)))
-      (entry (length (b .rights)) 256 (takenAt l) (λ i h o. held.no-taken b l can i h o))
-      due-entry
+  written-back = board-told b (carriedOf b l) (dueAt l) l (record {
+    size = size;
+    month = refl;
+    storages = entry (length (b .reservoirs)) 8 (storageAt l) (λ v h o. held.no-storage b l can v h o);
+    marks = sym (word-bits (length (b .reservoirs)) (marksAt l) (held.marks-most b l can));
+    taken = entry (length (b .rights)) 256 (takenAt l) (λ i h o. held.no-taken b l can i h o);
+    dues = due-entry;
+  })
 
   pub tally-begins : l ≡ tallyBoard b (begun (startOf b l))
   unfolding tallyBoard begun startOf
@@ -137,31 +142,22 @@ module _ (b : Basin) (acc : Accepted b) (l : List ℕ) (size : length l ≡ 970)
 
 -- ---- the fresh board
 
-only-none : (t : Bool) → only t 0 ≡ 0
-only-none true = refl
-only-none false = refl
-
 module _ (b : Basin) (acc : Accepted b) where
-  fresh-due : (p : ℕ) → 266 ≤ p → getD (freshBoard b) p 0 ≡ 0
-  unfolding freshBoard boardOf placeOf
-  fresh-due p h = pick (decLt p 970)
+  fresh-due : (w k : ℕ) → dueAt (freshBoard b) w k ≡ 0
+  unfolding freshBoard
+  fresh-due w zero = refl
+  fresh-due w (suc k) = pick (decLt (duePlace w k) boardLength)
     where
-      pick : Dec (p < 970) → getD (tab 970 (placeOf b (freshCarried b) (λ w k. 0))) p 0 ≡ 0
-      pick (yes l) = tab-at (placeOf b (freshCarried b) (λ w k. 0)) 970 p 0 l
-          ∙ rw (eqb-other p 0 (omega arith), ltb-no p 9 (omega arith), eqb-other p 9 (omega arith), ltb-no p 266 h) (only-none (ltb ((p - 266) / 11) (rows b)))
-      pick (no l) = tab-past (placeOf b (freshCarried b) (λ w k. 0)) 970 p 0 (omega arith)
+      size : length (boardOf b (freshCarried b) (λ u j. 0)) ≡ boardLength
+      size = board-length b (freshCarried b) (λ u j. 0)
+
+      pick : Dec (duePlace w k < boardLength) → dueAt (boardOf b (freshCarried b) (λ u j. 0)) w (suc k) ≡ 0
+      pick (yes l) = due-none b (freshCarried b) (duePlace w k) (omega arith) l
+      pick (no l) = List·getD-eq-default (boardOf b (freshCarried b) (λ u j. 0)) 0 {n = duePlace w k} (omega (arith, l, size))
 
   fresh-counted : Counted b (freshCarried b)
   unfolding freshStart
   fresh-counted = let p : Possible b (freshStart b) = fresh-possible b acc in record { storages = p .storages-count; marks = p .marks-count; taken = p .taken-count }
-
-  pub fresh-size : length (freshBoard b) ≡ 970
-  unfolding freshBoard
-  fresh-size = board-length b (freshCarried b) (λ w k. 0)
-
-  pub fresh-can : possible b (freshBoard b) ≡ true
-  unfolding freshBoard freshStart
-  fresh-can = held.board-possible b (freshCarried b) (λ w k. 0) (fresh-possible b acc .month-in-year) (capped-of b (freshStart b) (fresh-possible b acc)) (λ w k h l. omega arith)
 
   fresh-carried : carriedOf b (freshBoard b) ≡ freshCarried b
   unfolding freshBoard
@@ -169,4 +165,4 @@ module _ (b : Basin) (acc : Accepted b) where
 
   pub fresh-starts : startOf b (freshBoard b) ≡ freshStart b
   unfolding startOf freshStart
-  fresh-starts = λ z. record { carried = fresh-carried z; due = λ w k. fresh-due (266 + 11 * w + (k - 1)) (omega arith) z }
+  fresh-starts = λ z. record { carried = fresh-carried z; due = λ w k. fresh-due w k z }

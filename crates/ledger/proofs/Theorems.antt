@@ -3,12 +3,12 @@ use mathlib.Core.Path.{subst}
 use mathlib.Core.List.{List}
 use Prim.Native.Nat.{ℕ}
 use Rattle.rules.specs.Tally.{Start}
-use Rattle.basin.proofs.Accepted.{accepted-facts}
+use Rattle.filecheck.proofs.Accepted.{accepted-facts}
 use Rattle.ledger.specs.Account.{TellsAll, Accounted, Claim, FreshBoard, FreshStarts, FromFresh, Checkpoints, NotEmpty}
 use Rattle.ledger.proofs.Telling.{all-told}
 use Rattle.ledger.proofs.Account.{accounted, fresh-facts, board-checkpoints}
 use Rattle.ledger.proofs.Runs.{run-exists}
-use Rattle.boards.specs.Calls.{freshOf}
+use Rattle.fresh.specs.Fresh.{freshOf}
 
 pub claim : Claim
 claim f board e n can es r = accounted f e (accepted-facts f e) board n can es r

@@ -4,21 +4,25 @@ use mathlib.Core.Path.{_≡_}
 use mathlib.Core.Bool.{true}
 use mathlib.Core.List.{List, [], _∷_, map}
 use mathlib.Core.Option.{Option, none, some}
-use Prim.Native.Nat.{ℕ, _+_, _*_, _≤_, _<_}
+use Prim.Native.Nat.{ℕ, _≤_, _<_}
 use lib.ListN.{length, getD, drop}
 use lib.IntN.{pos}
 use Rattle.general.specs.Tests.{has}
 use Rattle.rules.specs.Basin.{Basin, rows}
 use Rattle.rules.specs.River.{flowAt, availableAt}
-use Rattle.rules.specs.Month.{MonthRun, reasonNumber}
-use Rattle.rules.specs.Tally.{Call, Answer, reportLength, refusal, Start, freshStart, Tally, begun, pending, nextRun, afterCall, afterCalls, answerOf}
+use Rattle.rules.specs.Month.{MonthRun, reasonNumber, grantAt}
+use Rattle.rules.specs.Tally.{Call, reportLength, refusal, Start, freshStart, Tally, begun, pending, nextRun, afterCall, afterCalls, answerOf}
+use Rattle.rules.specs.Answers.{Answer}
 use Rattle.rules.specs.Water.{MonthSound, WaterKept}
-use Rattle.basin.specs.declared.Verdict.the-variants.{Accepted}
+use Rattle.rules.specs.declared.Verdict.the-variants.{Accepted}
 use Rattle.records.specs.Records.{basinOf}
-use Rattle.basin.specs.Check.{checkOf}
-use Rattle.boards.specs.Board.{dueAt, carriedOf, boardOf, possible}
-use Rattle.boards.specs.Report.{grantAt, rowsFrom, reservoirsFrom, reportOf, nameIn}
-use Rattle.boards.specs.Calls.{freshOf, runOf, Outcome, MonthMeets}
+use Rattle.filecheck.specs.Check.{checkOf}
+use Rattle.places.specs.Board.{boardLength, dueAt}
+use Rattle.boards.specs.Board.{carriedOf, boardOf, possible}
+use Rattle.boards.specs.Report.{reportOf}
+use Rattle.places.specs.Report.{fromRiverPlace, fromStoragePlace, reasonPlace, flowPlace, availablePlace, evaporationPlace, nameIn}
+use Rattle.fresh.specs.Fresh.{freshOf}
+use Rattle.month.specs.Month.{callWith, runOf, Outcome, MonthMeets}
 
 -- ---- a run of calls
 
@@ -30,7 +34,7 @@ pub record Event : Type 0 where
 
 -- the call as the tally sees it: no board, and of the report only how long it is
 abbrev pub callOf : Event → Call
-callOf e = record { runoff = e .runoff; report = length (e .report) }
+callOf e = callWith (e .runoff) (e .report)
 
 -- The first call is lent this board, each next the board that the one before left, and each meets the month's contract.
 abbrev pub Run : List ℕ → List ℕ → List Event → Type 0
@@ -47,16 +51,16 @@ boardLeft board (e ∷ es) = boardLeft ((e .outcome) .board) es
 -- the report after a month run, told number by number; before is the report that was lent
 pub record Tells (b : Basin) (h : MonthRun) (before after : List ℕ) : Type 0 where
   -- all grants: river part, reservoir part and reason
-  pub from-river : (i : ℕ) → i < length (b .rights) → getD after (4 * i) 0 ≡ (grantAt h i) .fromRiver
-  pub from-storage : (i : ℕ) → i < length (b .rights) → getD after (4 * i + 1) 0 ≡ (grantAt h i) .fromStorage
-  pub reason : (i : ℕ) → i < length (b .rights) → getD after (4 * i + 2) 0 ≡ reasonNumber ((grantAt h i) .reason)
+  pub from-river : (i : ℕ) → i < length (b .rights) → getD after (fromRiverPlace i) 0 ≡ (grantAt (h .turns) i) .fromRiver
+  pub from-storage : (i : ℕ) → i < length (b .rights) → getD after (fromStoragePlace i) 0 ≡ (grantAt (h .turns) i) .fromStorage
+  pub reason : (i : ℕ) → i < length (b .rights) → getD after (reasonPlace i) 0 ≡ reasonNumber ((grantAt (h .turns) i) .reason)
   -- each station named is one that may be named
-  pub station : (i : ℕ) → i < length (b .rights) → has (nameIn after i) ((grantAt h i) .stations) ≡ true
+  pub station : (i : ℕ) → i < length (b .rights) → has (nameIn after i) ((grantAt (h .turns) i) .stations) ≡ true
   -- flows and available flows, as signed numbers
-  pub flow : (w : ℕ) → w < rows b → pos (getD after (rowsFrom b + 2 * w) 0) ≡ flowAt ((h .closed) .levels) w
-  pub available : (w : ℕ) → w < rows b → pos (getD after (rowsFrom b + 2 * w + 1) 0) ≡ availableAt ((h .closed) .levels) w
+  pub flow : (w : ℕ) → w < rows b → pos (getD after (flowPlace (length (b .rights)) w) 0) ≡ flowAt ((h .closed) .levels) w
+  pub available : (w : ℕ) → w < rows b → pos (getD after (availablePlace (length (b .rights)) w) 0) ≡ availableAt ((h .closed) .levels) w
   -- evaporation
-  pub evaporation : (v : ℕ) → v < length (b .reservoirs) → getD after (reservoirsFrom b + v) 0 ≡ getD (h .evaporation) v 0
+  pub evaporation : (v : ℕ) → v < length (b .reservoirs) → getD after (evaporationPlace (length (b .rights)) (rows b) v) 0 ≡ getD (h .evaporation) v 0
   -- the rest of the list is as it was
   pub beyond : drop (reportLength b) after ≡ drop (reportLength b) before
   pub size : length after ≡ length before
@@ -105,25 +109,25 @@ pub record Accounted (f board : List ℕ) (s : Start) (es : List Event) : Type 0
 
 -- So is every run, for every file that the check accepts and every board that is possible for it, with calls accepted and refused in any mix.
 abbrev pub Claim : Type 0
-Claim = (f board : List ℕ) → checkOf f ≡ Accepted → length board ≡ 970 → possible (basinOf f) board ≡ true → (es : List Event) → Run f board es → Accounted f board (startOf (basinOf f) board) es
+Claim = (f board : List ℕ) → checkOf f ≡ Accepted → length board ≡ boardLength → possible (basinOf f) board ≡ true → (es : List Event) → Run f board es → Accounted f board (startOf (basinOf f) board) es
 
 -- The board that fresh leaves is such a board, and what it starts from is the fresh start.
 pub record FreshBoard (f board : List ℕ) : Type 0 where
-  pub size : length ((freshOf f board) .board) ≡ 970
+  pub size : length ((freshOf f board) .board) ≡ boardLength
   pub is-possible : possible (basinOf f) ((freshOf f board) .board) ≡ true
   pub starts : startOf (basinOf f) ((freshOf f board) .board) ≡ freshStart (basinOf f)
 
 abbrev pub FreshStarts : Type 0
-FreshStarts = (f board : List ℕ) → checkOf f ≡ Accepted → length board ≡ 970 → FreshBoard f board
+FreshStarts = (f board : List ℕ) → checkOf f ≡ Accepted → length board ≡ boardLength → FreshBoard f board
 
 -- so that a run from the fresh board is accounted for by the fresh tally
 abbrev pub FromFresh : Type 0
-FromFresh = (f board : List ℕ) → checkOf f ≡ Accepted → length board ≡ 970 → (es : List Event) → Run f ((freshOf f board) .board) es → Accounted f ((freshOf f board) .board) (freshStart (basinOf f)) es
+FromFresh = (f board : List ℕ) → checkOf f ≡ Accepted → length board ≡ boardLength → (es : List Event) → Run f ((freshOf f board) .board) es → Accounted f ((freshOf f board) .board) (freshStart (basinOf f)) es
 
 -- ---- the checkpoints of a month from any possible board, with any runoff: before the first right and three times in each right's turn
 
 abbrev pub Checkpoints : Type 0
-Checkpoints = (f board runoff : List ℕ) → checkOf f ≡ Accepted → length board ≡ 970 → possible (basinOf f) board ≡ true → MonthSound (basinOf f) (runOf (basinOf f) runoff board)
+Checkpoints = (f board runoff : List ℕ) → checkOf f ≡ Accepted → length board ≡ boardLength → possible (basinOf f) board ≡ true → MonthSound (basinOf f) (runOf (basinOf f) runoff board)
 
 -- ---- the claim is not empty: from every board, for every list of runoffs and reports, there is a run of calls that meet the contract
 

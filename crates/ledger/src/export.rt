@@ -1,25 +1,40 @@
-// Fresh, month and stock as C calls them, each list as a pointer and a length.
+// The calls as C has them, each list as a pointer and a length. The promises are those of the calls.
 ghost use mathlib.Core.Path.{_≡_};
-ghost use Rattle.boards.specs.Calls.{freshOf, stockOf};
-ghost use Rattle.calls.specs.Answers.{answerOf, answerWord, stockTold, WordMeets};
-use calls::answer::Answer;
-use calls::answer::Stock;
-use calls::fresh::fresh;
-use calls::stock::stock;
-use monthrun::month::month;
+ghost use Rattle.rules.specs.Answers.{numberOf, told};
+ghost use Rattle.filecheck.specs.Check.{checkOf};
+ghost use Rattle.answers.specs.Answers.{answerOf};
+ghost use Rattle.fresh.specs.Fresh.{freshOf, freshTold};
+ghost use Rattle.stock.specs.Stock.{stockOf, stockTold};
+ghost use Rattle.month.specs.Month.{MonthMeets, outcomeOf};
+use answers::Answer;
+use answers::tell;
+use filecheck::check::check;
+use fresh::fresh;
+use month::month;
+use stock::Sums;
+use stock::stock;
 
-// The number and the first at fault in one word, the number in the upper half.
-fn word(answer: Answer) -> u64
-    ensures { λ r. ⌜ r ≡ answerWord (answerOf answer) ⌝ }
+// The refusal's number, or 0 where the file is accepted.
+#[no_mangle]
+pub extern "C" fn river_check(file: &[u8]) -> u32
+    ensures { λ r. ⌜ r ≡ numberOf (checkOf (now (file .entry))) ⌝ }
 {
-    (answer.number as u64) * 4294967296 + (answer.place as u64)
+    tell(check(file)).number as u32
+}
+
+// The number with the first at fault.
+#[no_mangle]
+pub extern "C" fn river_verdict(file: &[u8]) -> Answer
+    ensures { λ r. ⌜ answerOf r ≡ told (checkOf (now (file .entry))) ⌝ }
+{
+    tell(check(file))
 }
 
 #[no_mangle]
-pub extern "C" fn river_fresh(file: &[u8], board: &mut [u64]) -> u64
-    ensures { λ r. ⌜ (r ≡ answerWord ((freshOf (now (file .entry)) (now (board .entry))) .answer)) × (now (board .exit) ≡ (freshOf (now (file .entry)) (now (board .entry))) .board) ⌝ }
+pub extern "C" fn river_fresh(file: &[u8], board: &mut [u64]) -> Answer
+    ensures { λ r. ⌜ freshTold r (now (board .exit)) ≡ freshOf (now (file .entry)) (now (board .entry)) ⌝ }
 {
-    word(fresh(file, board))
+    fresh(file, board)
 }
 
 #[no_mangle]
@@ -28,14 +43,14 @@ pub extern "C" fn river_month(
     runoff: &[u32],
     board: &mut [u64],
     report: &mut [u64],
-) -> u64
-    ensures { λ r. ⌜ WordMeets (now (file .entry)) (now (runoff .entry)) (now (board .entry)) (now (report .entry)) r (now (board .exit)) (now (report .exit)) ⌝ }
+) -> Answer
+    ensures { λ r. ⌜ MonthMeets (now (file .entry)) (now (runoff .entry)) (now (board .entry)) (now (report .entry)) (outcomeOf r (now (board .exit)) (now (report .exit))) ⌝ }
 {
-    word(month(file, runoff, board, report))
+    month(file, runoff, board, report)
 }
 
 #[no_mangle]
-pub extern "C" fn river_stock(file: &[u8], board: &[u64]) -> Stock
+pub extern "C" fn river_stock(file: &[u8], board: &[u64]) -> Sums
     ensures { λ r. ⌜ stockTold r ≡ stockOf (now (file .entry)) (now (board .entry)) ⌝ }
 {
     stock(file, board)

@@ -6,14 +6,14 @@ use native.Mathlib.Numerals.{add-one}
 use native.Mathlib.Omega.{arith}
 use lib.ListN.{length, getD, take, set, length-set}
 use lib.Seq.{take-suc, take-suc-set, take-length}
+use Rattle.places.specs.Report.{fromRiverPlace, fromStoragePlace, reasonPlace, flowPlace, evaporationPlace, nameIn}
 use Rattle.general.specs.Sums.{sumTo}
-use Rattle.layout.specs.Bytes.{le32At}
+use Rattle.numbers.specs.Bytes.{le32At}
 use Rattle.rules.specs.Basin.{Right}
-use Rattle.records.specs.Records.{rowsOf, reservoirCount, rightCount, rightRecord, rightOf, rightsOf}
-use Rattle.records.proofs.Decoded.{right-is}
-use Rattle.boards.specs.Board.{storageAt, dueAt, storageSum, dueSum}
-use Rattle.boards.specs.Bodies.{bodies}
-use Rattle.boards.proofs.Bodies.{reservoirs-are, rights-are}
+use Rattle.records.specs.Records.{rowsOf, reservoirCount, rightCount, rightRecord, rightOf, rightsOf, bodies}
+use Rattle.records.proofs.Decoded.{right-is, reservoirs-are, rights-are}
+use Rattle.places.specs.Board.{storageAt, dueAt}
+use Rattle.boards.specs.Board.{storageSum, dueSum}
 use Rattle.records.proofs.Rows.{rows-are}
 use Rattle.listing.specs.Listing.{digit, decimalText, space, lineOf, lineEnd, endWord, refusedWord, rightLine, rightLines, endLine, outflowIn, evaporationIn, monthText, refusalLine}
 use Rattle.lines.specs.Putting.{mostText, Put, PutWhole}
@@ -125,7 +125,7 @@ word-then {at} {t} {o} w x y z =
 pub right-put : {at p q r : ℕ} {o o′ o″ o‴ : List ℕ} (month : ℕ) (rights report : List ℕ) (i permit : ℕ) → permit ≡ le32At rights (76 * i)
     → Put 21 at (decimalText month ++ (space ∷ [])) o o′ p
     → Put 21 p (decimalText permit ++ (space ∷ [])) o′ o″ q
-    → Put 84 q (lineOf (decimalText (getD report (4 * i) 0) ∷ decimalText (getD report (4 * i + 1) 0) ∷ decimalText (getD report (4 * i + 2) 0) ∷ decimalText (getD report (4 * i + 3) 0) ∷ [])) o″ o‴ r
+    → Put 84 q (lineOf (decimalText (getD report (fromRiverPlace i) 0) ∷ decimalText (getD report (fromStoragePlace i) 0) ∷ decimalText (getD report (reasonPlace i) 0) ∷ decimalText (nameIn report i) ∷ [])) o″ o‴ r
     → Put 126 at (rightLine month (rightOf rights i) report i) o o‴ r
 unfolding rightLine rightOf rightRecord
 right-put {p} {q} {o′} {o″} month rights report i permit e x y z =
@@ -186,17 +186,17 @@ refusal-put number place x y z = word-then refusedWord space x (word-then (decim
 
 module _ (st rs ps ri report board o o′ o″ : List ℕ) (month at p r x y z : ℕ) where
   pub month-put : Put 32256 at (rightLines month (rightsOf ri) report (rightCount ri)) o o′ p
-      → x ≡ sumTo (reservoirCount rs) (λ v. getD report (4 * rightCount ri + 2 * rowsOf st + v) 0)
+      → x ≡ sumTo (reservoirCount rs) (λ v. getD report (evaporationPlace (rightCount ri) (rowsOf st) v) 0)
       → y ≡ sumTo (reservoirCount rs) (storageAt board)
       → z ≡ sumTo (rowsOf st) (λ w. sumTo 11 (λ k. dueAt board w (suc k)))
-      → Put 109 p (endLine month (getD report (4 * rightCount ri + 2 * (rowsOf st - 1)) 0) x y z) o′ o″ r
+      → Put 109 p (endLine month (getD report (flowPlace (rightCount ri) (rowsOf st - 1)) 0) x y z) o′ o″ r
       → Put mostText at (monthText (bodies st rs ps ri) month report board) o o″ r
   unfolding monthText outflowIn evaporationIn bodies storageSum dueSum
   month-put lines ex ey ez end = record {
     put =
-        end .put ∙ ap (λ (l : List ℕ). l ++ endLine month (getD report (4 * rightCount ri + 2 * (rowsOf st - 1)) 0) x y z) (lines .put)
-        ∙ append-assoc (take at o) (rightLines month (rightsOf ri) report (rightCount ri)) (endLine month (getD report (4 * rightCount ri + 2 * (rowsOf st - 1)) 0) x y z)
+        end .put ∙ ap (λ (l : List ℕ). l ++ endLine month (getD report (flowPlace (rightCount ri) (rowsOf st - 1)) 0) x y z) (lines .put)
+        ∙ append-assoc (take at o) (rightLines month (rightsOf ri) report (rightCount ri)) (endLine month (getD report (flowPlace (rightCount ri) (rowsOf st - 1)) 0) x y z)
         ∙ rw (rights-are ri, reservoirs-are rs, rows-are st)
-        (λ i. take at o ++ (rightLines month (rightsOf ri) report (rightCount ri) ++ endLine month (getD report (4 * rightCount ri + 2 * (rowsOf st - 1)) 0) (ex i) (ey i) (ez i)));
+        (λ i. take at o ++ (rightLines month (rightsOf ri) report (rightCount ri) ++ endLine month (getD report (flowPlace (rightCount ri) (rowsOf st - 1)) 0) (ex i) (ey i) (ez i)));
     within = omega (arith, lines .within, end .within);
   }

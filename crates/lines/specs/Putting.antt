@@ -1,8 +1,9 @@
 -- What the functions that put text into a lent list of bytes ask and promise.
 use mathlib.Core.List.{List, _++_}
 use mathlib.Core.Path.{_≡_}
-use Prim.Native.Nat.{ℕ, _+_, _*_, _≤_, _<_}
+use Prim.Native.Nat.{ℕ, _+_, _≤_, _<_}
 use lib.ListN.{length, getD, take}
+use Rattle.places.specs.Report.{evaporationPlace, reportEnd}
 use Rattle.records.specs.Records.{rowsOf, reservoirCount, rightCount}
 use Rattle.boards.specs.Bodies.{Bounded}
 
@@ -27,7 +28,7 @@ pub record CanList (st rs ri board report out : List ℕ) (at : ℕ) : Type 0 wh
   pub some-row : 0 < rowsOf st
   pub few-rows : rowsOf st ≤ 64
   pub few-reservoirs : reservoirCount rs ≤ 8
-  pub told : 4 * rightCount ri + 2 * rowsOf st + reservoirCount rs ≤ length report
-  pub small : (v : ℕ) → v < reservoirCount rs → getD report (4 * rightCount ri + 2 * rowsOf st + v) 0 ≤ 2_000_000_000
+  pub told : reportEnd (rightCount ri) (rowsOf st) (reservoirCount rs) ≤ length report
+  pub small : (v : ℕ) → v < reservoirCount rs → getD report (evaporationPlace (rightCount ri) (rowsOf st) v) 0 ≤ 2_000_000_000
   pub bounded : Bounded board
   pub room : at + mostText ≤ length out

@@ -4,25 +4,26 @@ ghost use mathlib.Core.List.{List};
 ghost use Prim.Native.Nat.{ℕ, _+_, _*_, _≤_, _<_};
 ghost use lib.ListN.{length, getD};
 ghost use Rattle.general.specs.Sums.{sumTo};
-ghost use Rattle.records.specs.Records.{rightCount, rightOf, rightsOf};
-ghost use Rattle.boards.specs.Bodies.{bodies};
+ghost use Rattle.places.specs.Report.{linesEnd};
+ghost use Rattle.records.specs.Records.{rightCount, rightOf, rightsOf, bodies};
 ghost use Rattle.listing.specs.Listing.{rightLine, rightLines, endLine, monthText};
 ghost use Rattle.lines.specs.Putting.{mostText, CanList, Put};
 use crate::words::put_end_word;
 use crate::words::put_field;
 use crate::words::put_four;
-use calls::stock::due_sum;
-use calls::stock::storage_sum;
-use layout::bytes::le32;
+use boards::sums::due_sum;
+use boards::sums::storage_sum;
+use numbers::bytes::le32;
+use numbers::wide32;
+use places::report::FROM_STORAGE;
+use places::report::REASON;
+use places::report::STATION;
+use places::report::flow_place;
+use places::report::line_place;
+use places::report::rows_end;
 
 // The most bytes that the text of a month has.
 pub const MOST_TEXT: usize = 32365;
-
-fn wide(x: u32) -> u64
-    ensures { λ r. ⌜ r ≡ x ⌝ }
-{
-    x as u64
-}
 
 // Of a right's record only the permit is read.
 fn put_right(
@@ -33,25 +34,25 @@ fn put_right(
     report: &[u64],
     i: usize,
 ) -> usize
-    requires { ⌜ (at + 126 ≤ length (now out)) × (i < rightCount (now rights)) × (4 * rightCount (now rights) ≤ length (now report)) ⌝ }
+    requires { ⌜ (at + 126 ≤ length (now out)) × (i < rightCount (now rights)) × (rightCount (now rights) ≤ 256) × (linesEnd (rightCount (now rights)) ≤ length (now report)) ⌝ }
     ensures { λ r. ⌜ Put 126 at (rightLine month (rightOf (now (rights .entry)) i) (now (report .entry)) i) (now (out .entry)) (now (out .exit)) r ⌝ }
 {
     let second = put_field(out, at, month, b' ');
-    let third = put_field(out, second, wide(le32(rights, 76 * i)), b' ');
-    let first = 4 * i;
+    let third = put_field(out, second, wide32(le32(rights, 76 * i)), b' ');
+    let line = line_place(i);
     put_four(
         out,
         third,
-        report[first],
-        report[first + 1],
-        report[first + 2],
-        report[first + 3],
+        report[line],
+        report[line + FROM_STORAGE],
+        report[line + REASON],
+        report[line + STATION],
     )
 }
 
 // The lines of all rights.
 fn put_rights(out: &mut [u8], from: usize, month: u64, rights: &[u8], report: &[u64]) -> usize
-    requires { ⌜ (from + 32256 ≤ length (now out)) × (rightCount (now rights) ≤ 256) × (4 * rightCount (now rights) ≤ length (now report)) ⌝ }
+    requires { ⌜ (from + 32256 ≤ length (now out)) × (rightCount (now rights) ≤ 256) × (linesEnd (rightCount (now rights)) ≤ length (now report)) ⌝ }
     ensures { λ r. ⌜ Put 32256 from (rightLines month (rightsOf (now (rights .entry))) (now (report .entry)) (rightCount (now (rights .entry)))) (now (out .entry)) (now (out .exit)) r ⌝ }
 {
     let n = rights.len() / 76;
@@ -106,12 +107,12 @@ pub fn put_month(
     ensures { λ r. ⌜ ((ps : List ℕ) → Put mostText at (monthText (bodies (now (stations .entry)) (now (reservoirs .entry)) ps (now (rights .entry))) month (now (report .entry)) (now (board .entry))) (now (out .entry)) (now (out .exit)) r) ⌝ }
 {
     let rows = stations.len() / 8;
-    let lakes = reservoirs.len() / 68;
-    let first = 4 * (rights.len() / 76);
+    let n = reservoirs.len() / 68;
+    let lines = rights.len() / 76;
     let end = put_rights(out, at, month, rights, report);
-    let outflow = report[first + 2 * (rows - 1)];
-    let evaporation = evaporation_sum(report, first + 2 * rows, lakes);
-    let storage = storage_sum(lakes, board);
+    let outflow = report[flow_place(lines, rows - 1)];
+    let evaporation = evaporation_sum(report, rows_end(lines, rows), n);
+    let storage = storage_sum(n, board);
     let pending = due_sum(rows, board);
     put_end(out, end, month, outflow, evaporation, storage, pending)
 }

@@ -1,4 +1,5 @@
 -- A listing is opened: the header, and the file's refusal or the fresh board. Assumes nothing.
+use Rattle.places.specs.Board.{boardLength}
 use mathlib.Core.Bool.{true, false}
 use mathlib.Core.List.{List, _++_}
 use mathlib.Core.Option.{Option, none, some}
@@ -6,11 +7,11 @@ use mathlib.Core.Path.{_≡_, refl, ap, _∙_}
 use Prim.Native.Nat.{ℕ}
 use native.Mathlib.Omega.{arith}
 use lib.ListN.{length}
-use Rattle.rules.specs.Tally.{Answer}
+use Rattle.rules.specs.Answers.{Answer}
 use Rattle.records.specs.Records.{basinOf}
-use Rattle.boards.specs.Calls.{fileRefusal, orElse, unless, freshRefusal, freshBoard, Fresh, freshSettled, freshOf}
-use Rattle.calls.specs.Answers.{settled}
-use Rattle.calls.proofs.Answers.{accepted-of, no-refusal, settled-some}
+use Rattle.answers.specs.Answers.{fileRefusal, orElse, unless, settled}
+use Rattle.fresh.specs.Fresh.{freshRefusal, freshBoard, Fresh, freshSettled, freshOf}
+use Rattle.answers.proofs.Answers.{accepted-of, no-refusal, settled-some}
 use Rattle.listing.specs.Listing.{refusalLine, header}
 use Rattle.lines.specs.Putting.{Put}
 use Rattle.listing.specs.Run.{begin}
@@ -27,7 +28,7 @@ unfolding freshSettled settled
 settled-answer none f bd = refl
 settled-answer (some a) f bd = refl
 
-module _ (f bd bd′ : List ℕ) (size : length bd ≡ 970) (a : Answer) (told : record { answer = a; board = bd′ } ≡ freshOf f bd) where
+module _ (f bd bd′ : List ℕ) (size : length bd ≡ boardLength) (a : Answer) (told : record { answer = a; board = bd′ } ≡ freshOf f bd) where
   fresh-is : freshOf f bd ≡ freshSettled (fileRefusal f) f bd
   unfolding freshOf freshRefusal unless
   fresh-is = rw (size, or-none (fileRefusal f))
@@ -53,7 +54,7 @@ module _ (f bd bd′ : List ℕ) (size : length bd ≡ 970) (a : Answer) (told :
     pub accepted-open : a .number ≡ 0 → Opened f bd out bd′ o′ (record { months = 0; at = q; more = true })
     unfolding freshSettled opening begin
     accepted-open n =
-        let v : fileRefusal f ≡ none = no-refusal f bd (accepted-of f a answer-is n) in
+        let v : fileRefusal f ≡ none = no-refusal f (accepted-of f a answer-is n) in
         let made : bd′ ≡ freshBoard (basinOf f) = ap (λ (x : Fresh). x .board) (by-file ∙ ap (λ (x : Option Answer). freshSettled x f bd) v) in
         record {
           text = header;

@@ -10,7 +10,7 @@ use Rattle.general.proofs.Tests.{absurd-bool}
 use Rattle.rules.specs.Basin.{Basin}
 use Rattle.records.specs.Records.{basinOf}
 use Rattle.boards.specs.Board.{possible}
-use Rattle.basin.proofs.Accepted.{accepted-facts}
+use Rattle.filecheck.proofs.Accepted.{accepted-facts}
 use Rattle.lines.specs.Putting.{mostText}
 use Rattle.listing.specs.Run.{sheetBytes, Step}
 use Rattle.listing.specs.Steps.{StepMeets, Place, after, Walk, textsOf}
@@ -102,11 +102,11 @@ pub record Sofar (f block : List ℕ) (p : Progress) (bd out bd′ out′ : List
 
 module _ (f block : List ℕ) (p : Progress) (bd rp out : List ℕ) (c : CanListBlock f block p bd rp out) where
   pub some-bytes : 0 < sheetBytes (basinOf f)
-  some-bytes = omega (arith, accepted-facts f (c .step .accepted) .connected .some-row)
+  some-bytes = omega (arith, accepted-facts f (c .step .in-order .accepted) .connected .some-row)
 
   pub sofar-none : Sofar f block p bd out bd out p 0
   sofar-none = record {
-    listed = block-none f block false p 0 bd out (c .step .can) (omega (arith, c .step .room)) (omega arith);
+    listed = block-none f block false p 0 bd out (c .step .in-order .can) (omega (arith, c .step .room)) (omega arith);
     going = c .going;
     none = λ _. refl;
   }
@@ -114,10 +114,7 @@ module _ (f block : List ℕ) (p : Progress) (bd rp out : List ℕ) (c : CanList
   module _ (q : Progress) (used : ℕ) (bd₁ out₁ rp₁ : List ℕ) (s : Sofar f block p bd out bd₁ out₁ q used) (eb : length bd₁ ≡ length bd) (er : length rp₁ ≡ length rp) (eo : length out₁ ≡ length out) where
     pub can-step : q .at + mostText ≤ length out₁ → CanStep f q bd₁ rp₁ out₁
     can-step room = record {
-      accepted = c .step .accepted;
-      size = eb ∙ c .step .size;
-      can = s .listed .can;
-      told = omega (arith, c .step .told, er);
+      in-order = record { accepted = c .step .in-order .accepted; size = eb ∙ c .step .in-order .size; can = s .listed .can; told = omega (arith, c .step .in-order .told, er) };
       room = room;
       counted = omega (arith, c .counted, s .listed .counted, s .listed .used);
     }
@@ -162,10 +159,7 @@ module _ (f block : List ℕ) (p : Progress) (bd rp out : List ℕ) (c : CanList
 module _ (f block : List ℕ) (size : ℕ) (l : Listed) (bd rp out : List ℕ) (c : CanListRest f block size l bd rp out) where
   pub rest-step : l .progress .at + mostText ≤ length out → CanStep f (l .progress) bd rp out
   rest-step room = record {
-    accepted = c .accepted;
-    size = c .places;
-    can = c .can;
-    told = c .told;
+    in-order = c .in-order;
     room = room;
     counted = c .counted;
   }
@@ -173,7 +167,7 @@ module _ (f block : List ℕ) (size : ℕ) (l : Listed) (bd rp out : List ℕ) (
   -- where it is not listed
   pub rest-left : ((sheetBytes (basinOf f) + l .used ≤ length block → ⊥) → l .progress .at + mostText ≤ length out → l .progress .more ≡ false)
       → BlockListed f block true (l .progress) (l .used) bd out bd out l × RestListed (basinOf f) block l (length out) l
-  rest-left end = (block-none f block true (l .progress) (l .used) bd out (c .can) (c .within) (c .used), record { end = end; used = omega arith })
+  rest-left end = (block-none f block true (l .progress) (l .used) bd out (c .in-order .can) (c .within) (c .used), record { end = end; used = omega arith })
 
   module _ (going : l .progress .more ≡ true) (short : sheetBytes (basinOf f) + l .used ≤ length block → ⊥) (room : l .progress .at + mostText ≤ length out)
       (part : List ℕ) (part-is : part ≡ drop (l .used) block) (bd′ out′ : List ℕ) (eo : length out′ ≡ length out) (r : Progress) (w : Stepped f part (l .progress) bd out bd′ out′ r) where
@@ -203,11 +197,8 @@ module _ (f block : List ℕ) (p : Progress) (bd rp out : List ℕ) (c : CanList
 
   pub can-rest : (rp₁ : List ℕ) (size : ℕ) → size ≡ sheetBytes (basinOf f) → length bd₁ ≡ length bd → length rp₁ ≡ length rp → CanListRest f block size l bd₁ rp₁ out₁
   can-rest rp₁ size e eb er = record {
-    accepted = c .step .accepted;
+    in-order = record { accepted = c .step .in-order .accepted; size = eb ∙ c .step .in-order .size; can = s .listed .can; told = omega (arith, c .step .in-order .told, er) };
     sheet = e;
-    places = eb ∙ c .step .size;
-    can = s .listed .can;
-    told = omega (arith, c .step .told, er);
     within = s .listed .within;
     used = s .listed .used;
     counted = omega (arith, c .counted, s .listed .counted, s .listed .used);

@@ -5,7 +5,7 @@ use Prim.Native.Nat.{ℕ, zero, suc, _*_, _≤_, _<_}
 use native.Mathlib.Omega.{arith}
 use lib.ListN.{length, getD, take}
 use Rattle.general.proofs.Tables.{tab-length, tab-at}
-use Rattle.layout.specs.Bytes.{le32At}
+use Rattle.numbers.specs.Bytes.{le32At}
 use Rattle.listing.specs.Run.{sheetOf}
 
 pub sheet-length : (n : ℕ) (bytes : List ℕ) → length (sheetOf n bytes) ≡ n

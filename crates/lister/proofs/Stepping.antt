@@ -1,23 +1,27 @@
 -- A step of a listing tells what the rules define. Assumes nothing.
+use Rattle.general.proofs.Sums.{sumTo-same}
+use Rattle.rules.specs.declared.Verdict.the-variants.{Lists}
 use mathlib.Core.Bool.{true, false}
 use mathlib.Core.List.{List, [], _∷_, _++_, map}
 use mathlib.Core.Option.{Option, none, some}
 use mathlib.Core.Path.{_≡_, refl, sym, ap, _∙_, subst}
-use Prim.Native.Nat.{ℕ, zero, suc, _+_, _*_, _<_}
+use Prim.Native.Nat.{ℕ, zero, suc, _+_, _<_}
 use native.Mathlib.Omega.{arith}
 use lib.ListN.{length, getD, drop, List·getD-append}
-use Rattle.general.specs.Sums.{sumTo}
 use Rattle.general.specs.Tables.{tab}
 use Rattle.general.proofs.Tests.{eqb-same, eqb-other}
 use Rattle.general.proofs.Tables.{tab-length}
 use Rattle.rules.specs.Basin.{Right, Basin, noRight, rows}
 use Rattle.rules.specs.Path.{lastRow}
 use Rattle.rules.specs.Month.{MonthRun}
-use Rattle.rules.specs.Tally.{Answer, reportLength, overLimit, overAnswer}
+use Rattle.rules.specs.Answers.{Answer, told}
+use Rattle.rules.specs.Tally.{reportLength, overLimit, overAnswer}
 use Rattle.boards.specs.Board.{storageSum, dueSum}
-use Rattle.boards.specs.Report.{reservoirsFrom, rowsFrom, reportPlace, reportOf, nameIn}
-use Rattle.boards.specs.Calls.{orElse, unless, runOf, boardAfter, Outcome, monthSettled, NamesAllowed}
-use Rattle.steps.specs.Steps.{WentOn}
+use Rattle.boards.specs.Report.{reportParts, reportOf}
+use Rattle.places.specs.Report.{fromRiverPlace, fromStoragePlace, reasonPlace, stationPlace, linesEnd, flowPlace, evaporationPlace, nameIn, partAt}
+use Rattle.answers.specs.Answers.{orElse, unless}
+use Rattle.month.specs.Month.{runOf, boardAfter, Outcome, monthSettled, NamesAllowed}
+use Rattle.month.specs.Run.{SheetRan}
 use Rattle.listing.specs.Listing.{rightLine, rightLines, decimalText, lineOf, endLine, outflowIn, evaporationIn, monthText, refusalLine}
 use Rattle.listing.specs.Run.{sheetOf, sheetBytes, partRefusal, Standing, Step, sheetStep, stepOf}
 use Rattle.listing.specs.Steps.{StepMeets}
@@ -25,31 +29,26 @@ use Rattle.listing.specs.Steps.{StepMeets}
 -- ---- the text of a month reads only what the report tells
 
 module _ (month : ℕ) (rights : List Right) (x y : List ℕ) where
-  lines-same : (n : ℕ) → ((p : ℕ) → p < 4 * n → getD x p 0 ≡ getD y p 0) → rightLines month rights x n ≡ rightLines month rights y n
+  lines-same : (n : ℕ) → ((p : ℕ) → p < linesEnd n → getD x p 0 ≡ getD y p 0) → rightLines month rights x n ≡ rightLines month rights y n
   unfolding rightLines rightLine
   lines-same zero h = refl
   lines-same (suc n) h = λ z. lines-same n (λ p l. h p (omega arith)) z
       ++ lineOf (map decimalText (month ∷ (getD rights n noRight) .permit
-      ∷ h (4 * n) (omega arith) z ∷ h (4 * n + 1) (omega arith) z ∷ h (4 * n + 2) (omega arith) z ∷ h (4 * n + 3) (omega arith) z ∷ []))
-
-sum-same : (n : ℕ) (f g : ℕ → ℕ) → ((i : ℕ) → i < n → f i ≡ g i) → sumTo n f ≡ sumTo n g
-unfolding sumTo
-sum-same zero f g h = refl
-sum-same (suc n) f g h = λ z. sum-same n f g (λ i l. h i (omega arith)) z + h n (omega arith) z
+      ∷ h (fromRiverPlace n) (omega arith) z ∷ h (fromStoragePlace n) (omega arith) z ∷ h (reasonPlace n) (omega arith) z ∷ h (stationPlace n) (omega arith) z ∷ []))
 
 module _ (b : Basin) (h : MonthRun) (names : ℕ → ℕ) (old : List ℕ) where
   place-same : (p : ℕ) → p < reportLength b → getD (reportOf b h names old) p 0 ≡ getD (reportOf b h names []) p 0
   unfolding reportOf
-  place-same p l = let k : p < length (tab (reportLength b) (reportPlace b h names)) = rw (tab-length (reportPlace b h names) (reportLength b)) l in
-      List·getD-append (tab (reportLength b) (reportPlace b h names)) (drop (reportLength b) old) 0 p k
-      ∙ sym (List·getD-append (tab (reportLength b) (reportPlace b h names)) (drop (reportLength b) []) 0 p k)
+  place-same p l = let k : p < length (tab (reportLength b) (partAt (length (b .rights)) (rows b) (reportParts h names))) = rw (tab-length (partAt (length (b .rights)) (rows b) (reportParts h names)) (reportLength b)) l in
+      List·getD-append (tab (reportLength b) (partAt (length (b .rights)) (rows b) (reportParts h names))) (drop (reportLength b) old) 0 p k
+      ∙ sym (List·getD-append (tab (reportLength b) (partAt (length (b .rights)) (rows b) (reportParts h names))) (drop (reportLength b) []) 0 p k)
 
   text-same : 0 < rows b → (month : ℕ) (board : List ℕ) → monthText b month (reportOf b h names old) board ≡ monthText b month (reportOf b h names []) board
   unfolding monthText outflowIn evaporationIn
   text-same row month board = λ z.
       lines-same month (b .rights) (reportOf b h names old) (reportOf b h names []) (length (b .rights)) (λ p l. place-same p (omega arith)) z
-      ++ endLine month (place-same (rowsFrom b + 2 * lastRow b) (omega (arith, row)) z)
-      (sum-same (length (b .reservoirs)) _ _ (λ v l. place-same (reservoirsFrom b + v) (omega arith)) z) (storageSum b board) (dueSum b board)
+      ++ endLine month (place-same (flowPlace (length (b .rights)) (lastRow b)) (omega (arith, row)) z)
+      (sumTo-same (length (b .reservoirs)) _ _ (λ v l. place-same (evaporationPlace (length (b .rights)) (rows b) v) (omega arith)) z) (storageSum b board) (dueSum b board)
 
 -- ---- which step a part makes
 
@@ -66,7 +65,7 @@ module _ (b : Basin) (s : Standing) (part : List ℕ) where
   unfolding partRefusal unless orElse
   whole-refusal h = rw (h, eqb-same (sheetBytes b))
 
-  short-refusal : (length part ≡ sheetBytes b → ⊥) → partRefusal b part ≡ some (record { number = 6; place = 0 })
+  short-refusal : (length part ≡ sheetBytes b → ⊥) → partRefusal b part ≡ some (told Lists)
   unfolding partRefusal unless orElse
   short-refusal h = rw (eqb-other (length part) (sheetBytes b) h)
 
@@ -80,8 +79,8 @@ module _ (b : Basin) (s : Standing) (part : List ℕ) where
   }
 
   -- a part too short, or none
-  pub short-meets : 0 < length part → (length part ≡ sheetBytes b → ⊥) → StepMeets b s part (record { text = refusalLine (record { number = 6; place = 0 }); standing = s; more = false })
-  short-meets some-bytes h = refused-meets (record { number = 6; place = 0 }) some-bytes (short-refusal h)
+  pub short-meets : 0 < length part → (length part ≡ sheetBytes b → ⊥) → StepMeets b s part (record { text = refusalLine (told Lists); standing = s; more = false })
+  short-meets some-bytes h = refused-meets (told Lists) some-bytes (short-refusal h)
 
   pub over-meets : (a : Answer) → 0 < length part → length part ≡ sheetBytes b → overAnswer (overLimit (sheetOf (rows b) part)) ≡ some a
       → StepMeets b s part (record { text = refusalLine a; standing = s; more = false })
@@ -128,7 +127,7 @@ short-ends b s part h o w = ap (λ (x : Step). x .more) (w .equation) ∙ go par
 
 -- ---- what the month's own promise says, case by case
 
-module _ (b : Basin) (runoff bd rp bd′ rp′ : List ℕ) (a : Answer) (w : WentOn b runoff bd rp (record { answer = a; board = bd′; report = rp′ })) where
+module _ (b : Basin) (runoff bd rp bd′ rp′ : List ℕ) (a : Answer) (w : SheetRan b runoff bd rp (record { answer = a; board = bd′; report = rp′ })) where
   abbrev settledBy : Option Answer → Outcome
   settledBy v = monthSettled v b runoff bd rp (nameIn rp′)
 

@@ -6,12 +6,14 @@ use mathlib.Core.Path.{_≡_}
 use Prim.Native.Nat.{ℕ, _+_, _≤_, _<_}
 use lib.ListN.{length, take, drop}
 use Rattle.rules.specs.Basin.{Basin}
-use Rattle.rules.specs.Tally.{Answer, reportLength}
-use Rattle.basin.specs.declared.Verdict.the-variants.{Accepted}
-use Rattle.basin.specs.Check.{checkOf}
+use Rattle.rules.specs.Answers.{Answer}
+use Rattle.rules.specs.Tally.{reportLength}
+use Rattle.rules.specs.declared.Verdict.the-variants.{Accepted}
+use Rattle.filecheck.specs.Check.{checkOf}
 use Rattle.records.specs.Records.{basinOf}
+use Rattle.places.specs.Board.{boardLength}
 use Rattle.boards.specs.Board.{possible}
-use Rattle.boards.specs.Calls.{fileRefusal}
+use Rattle.answers.specs.Answers.{fileRefusal}
 use Rattle.listing.specs.Listing.{refusalLine, header}
 use Rattle.lines.specs.Putting.{mostText, Put}
 use Rattle.listing.specs.Run.{sheetBytes, Standing, Step, begin}
@@ -38,12 +40,16 @@ pub record Opened (f board out board′ out′ : List ℕ) (r : Progress) : Type
 
 -- ---- a step
 
--- an accepted file, a possible board, room for the report and for a month's text, and a month that can be counted
-pub record CanStep (f : List ℕ) (p : Progress) (board report out : List ℕ) : Type 0 where
+-- what is in order from step to step of a listing: an accepted file, a possible board, room for the report
+pub record InOrder (f board report : List ℕ) : Type 0 where
   pub accepted : checkOf f ≡ Accepted
-  pub size : length board ≡ 970
+  pub size : length board ≡ boardLength
   pub can : possible (basinOf f) board ≡ true
   pub told : reportLength (basinOf f) ≤ length report
+
+-- with it room for a month's text, and a month that can be counted
+pub record CanStep (f : List ℕ) (p : Progress) (board report out : List ℕ) : Type 0 where
+  pub in-order : InOrder f board report
   pub room : p .at + mostText ≤ length out
   pub counted : p .months < 18_446_744_073_709_551_615
 
@@ -57,8 +63,8 @@ pub record Stepped (f part : List ℕ) (p : Progress) (board out board′ out′
   pub counted : r .months ≤ p .months + length part
 
 -- the line of a refusal is added, and the listing ends
-pub record Refused (p : Progress) (number place : ℕ) (out out′ : List ℕ) (r : Progress) : Type 0 where
-  pub put : Put mostText (p .at) (refusalLine (record { number = number; place = place })) out out′ (r .at)
+pub record Refused (p : Progress) (a : Answer) (out out′ : List ℕ) (r : Progress) : Type 0 where
+  pub put : Put mostText (p .at) (refusalLine a) out out′ (r .at)
   pub months : r .months ≡ p .months
   pub more : r .more ≡ false
 
@@ -98,11 +104,8 @@ pub record SheetsListed (f block : List ℕ) (p : Progress) (board out board′ 
 
 -- what the rest of a block asks for: all that a step does but room, which it may lack
 pub record CanListRest (f block : List ℕ) (size : ℕ) (l : Listed) (board report out : List ℕ) : Type 0 where
-  pub accepted : checkOf f ≡ Accepted
+  pub in-order : InOrder f board report
   pub sheet : size ≡ sheetBytes (basinOf f)
-  pub places : length board ≡ 970
-  pub can : possible (basinOf f) board ≡ true
-  pub told : reportLength (basinOf f) ≤ length report
   pub within : l .progress .at ≤ length out
   pub used : l .used ≤ length block
   pub counted : l .progress .months < 18_446_744_073_709_551_615

@@ -9,9 +9,9 @@ ghost use Rattle.lister.specs.Lister.{CanListBlock, CanListRest, BlockLi
 use crate::Listed;
 use crate::Progress;
 use crate::sheets::list_part;
-use layout::contents::STATIONS;
-use layout::contents::section;
 use lines::month::MOST_TEXT;
+use sections::STATIONS;
+use sections::section;
 
 // The whole sheets of a block, until one ends the listing or the next month's text might not fit.
 fn list_sheets(

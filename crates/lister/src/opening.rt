@@ -2,14 +2,15 @@
 ghost use Prim.Native.Nat.{_≤_};
 ghost use mathlib.Core.Path.{_≡_};
 ghost use lib.ListN.{length};
+ghost use Rattle.places.specs.Board.{boardLength};
 ghost use Rattle.lister.specs.Lister.{Opened};
 use crate::Progress;
-use calls::fresh::fresh;
+use fresh::fresh;
 use lines::frame::put_header;
 use lines::frame::put_refusal;
 
 pub fn open_listing(file: &[u8], board: &mut [u64], out: &mut [u8]) -> Progress
-    requires { ⌜ (length (now board) ≡ 970) × (82 ≤ length (now out)) ⌝ }
+    requires { ⌜ (length (now board) ≡ boardLength) × (82 ≤ length (now out)) ⌝ }
     ensures { λ r. ⌜ Opened (now (file .entry)) (now (board .entry)) (now (out .entry)) (now (board .exit)) (now (out .exit)) r ⌝ }
 {
     let at = put_header(out);
@@ -17,7 +18,7 @@ pub fn open_listing(file: &[u8], board: &mut [u64], out: &mut [u8]) -> Progress
     if answer.number != 0 {
         return Progress {
             months: 0,
-            at: put_refusal(out, at, answer.number as u64, answer.place as u64),
+            at: put_refusal(out, at, answer),
             more: false,
         };
     }

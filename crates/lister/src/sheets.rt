@@ -4,20 +4,23 @@ ghost use Prim.Native.Nat.{_+_, _*_, _≤_};
 ghost use lib.ListN.{length};
 ghost use Rattle.rules.specs.Basin.{rows};
 ghost use Rattle.records.specs.Records.{basinOf};
+ghost use Rattle.answers.specs.Answers.{answerOf};
 ghost use Rattle.listing.specs.Run.{sheetOf, sheetBytes};
 ghost use Rattle.lines.specs.Putting.{mostText};
 ghost use Rattle.lister.specs.Lister.{CanStep, Stepped, Refused};
 use crate::Progress;
-use calls::answer::LISTS;
-use layout::bytes::le32;
-use layout::contents::PATTERNS;
-use layout::contents::RESERVOIRS;
-use layout::contents::RIGHTS;
-use layout::contents::STATIONS;
-use layout::contents::section;
+use answers::Answer;
+use answers::tell;
 use lines::frame::put_refusal;
 use lines::month::put_month;
-use monthrun::month::go_on;
+use month::run::run_sheet;
+use numbers::bytes::le32;
+use rules::Verdict;
+use sections::PATTERNS;
+use sections::RESERVOIRS;
+use sections::RIGHTS;
+use sections::STATIONS;
+use sections::section;
 
 // A sheet's bytes as its numbers.
 fn decode(bytes: &[u8], runoff: &mut [u32])
@@ -31,13 +34,13 @@ fn decode(bytes: &[u8], runoff: &mut [u32])
 }
 
 // A refusal is the last line of a listing.
-fn refuse(out: &mut [u8], from: Progress, number: u32, place: u32) -> Progress
+fn refuse(out: &mut [u8], from: Progress, answer: Answer) -> Progress
     requires { ⌜ from .at + mostText ≤ length (now out) ⌝ }
-    ensures { λ r. ⌜ Refused from number place (now (out .entry)) (now (out .exit)) r ⌝ }
+    ensures { λ r. ⌜ Refused from (answerOf answer) (now (out .entry)) (now (out .exit)) r ⌝ }
 {
     Progress {
         months: from.months,
-        at: put_refusal(out, from.at, number as u64, place as u64),
+        at: put_refusal(out, from.at, answer),
         more: false,
     }
 }
@@ -60,7 +63,7 @@ fn list_sheet(
     let patterns = section(file, PATTERNS);
     let rights = section(file, RIGHTS);
     decode(sheet, runoff);
-    let answer = go_on(
+    let answer = run_sheet(
         stations,
         reservoirs,
         patterns,
@@ -70,7 +73,7 @@ fn list_sheet(
         report,
     );
     if answer.number != 0 {
-        return refuse(out, from, answer.number, answer.place);
+        return refuse(out, from, answer);
     }
     let at = put_month(
         out,
@@ -111,7 +114,7 @@ pub fn list_part(
     }
     let n = section(file, STATIONS).len() / 8;
     if left != 4 * n {
-        return refuse(out, from, LISTS, 0);
+        return refuse(out, from, tell(Verdict::Lists));
     }
     let mut runoff = [0u32; 64];
     list_sheet(file, part, &mut runoff[..n], from, board, report, out)

@@ -7,11 +7,11 @@ use Prim.Native.Nat.{ℕ, zero, suc}
 use lib.ListN.{length, take, drop}
 use Rattle.rules.specs.Accepted.{Accepted}
 use Rattle.rules.specs.Basin.{Basin, rows}
-use Rattle.rules.specs.Tally.{Answer}
+use Rattle.rules.specs.Answers.{Answer}
 use Rattle.records.specs.Records.{basinOf}
-use Rattle.basin.proofs.Accepted.{accepted-facts}
-use Rattle.boards.specs.Calls.{runOf, NamesAllowed}
-use Rattle.boards.proofs.Names.{firstNames, run-named}
+use Rattle.filecheck.proofs.Accepted.{accepted-facts}
+use Rattle.month.specs.Month.{runOf, NamesAllowed}
+use Rattle.month.proofs.Names.{firstNames, run-named}
 use Rattle.listing.specs.Run.{sheetOf, sheetBytes, partRefusal, Standing, Step, nextStep, begin, listingOf, PartNames, IfMore, NamesFit}
 use Rattle.listing.specs.Steps.{HasListing}
 use Rattle.listing.proofs.Steps.{first-then}

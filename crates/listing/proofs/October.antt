@@ -10,25 +10,29 @@ use Rattle.general.proofs.Tests.{eq-of}
 use Rattle.general.specs.Sums.{sumOver, sumTo}
 use Rattle.general.specs.Tables.{tab}
 use Rattle.general.specs.Routes.{follow}
-use Rattle.general.specs.Tests.{_and_, has, firstAt}
+use Rattle.general.specs.Tests.{_and_, has, firstAt, bit}
 use Rattle.rules.specs.Basin.{Basin}
 use Rattle.rules.specs.Path.{carriesOn, rowBelow, path, untilRow}
 use Rattle.rules.specs.River.{diverted, reserved, released, returned, along, lowest, lesser}
 use Rattle.rules.specs.Returns.{consumption, returning, sharesFrom, shares, partsAt, partsOf, lagged, returnNow, returnedAt}
-use Rattle.rules.specs.Turn.{bit, scheduled, demand, anyOn, called, divertible, riverPart, withLevels, afterDiversion, riverStage, storagePart, storageStage, returnStage, shortage, reasonOf, keepIf, lowestOn, lowRows, numberAt, controlling, turn}
-use Rattle.rules.specs.Month.{gathered, openingLevels, opening, turns, afterTurns, consumedBy, returnedBy, returnsAt, areaFrom, areaAt, evaporation, evaporations, evaporated, nextMonth, month, reasonNumber}
+use Rattle.rules.specs.Turn.{scheduled, demand, anyOn, called, divertible, riverPart, withLevels, afterDiversion, riverStage, storagePart, storageStage, returnStage, shortage, reasonOf, keepIf, lowestOn, lowRows, numberAt, controlling, turn}
+use Rattle.rules.specs.Month.{gathered, openingLevels, opening, turns, afterTurns, consumedBy, returnedBy, returnsAt, areaFrom, areaAt, evaporation, evaporations, evaporated, nextMonth, month, reasonNumber, grantAt}
 use Rattle.rules.specs.Tally.{overLimit, overAnswer, freshCarried}
-use Rattle.layout.specs.Bytes.{le32At}
-use Rattle.boards.specs.Board.{carriedOf, wordOf, placeOf, boardOf, storageSum, dueSum}
-use Rattle.boards.specs.Report.{grantAt, grantNumber, levelNumber, reportPlace, reportOf}
-use Rattle.boards.specs.Calls.{orElse, unless, freshBoard, runOf, dueAfter, boardAfter}
+use Rattle.numbers.specs.Bytes.{le32At}
+use Rattle.boards.specs.Board.{carriedOf, wordOf, boardParts, boardOf, storageSum, dueSum}
+use Rattle.places.specs.Board.{boardBy}
+use Rattle.places.specs.Board as board
+use Rattle.places.specs.Report as report
+use Rattle.boards.specs.Report.{grantNumber, levelNumber, reportParts, reportOf}
+use Rattle.answers.specs.Answers.{orElse, unless, fileRefusal, verdictRefusal}
+use Rattle.fresh.specs.Fresh.{freshBoard}
+use Rattle.month.specs.Month.{runOf, dueAfter, boardAfter}
 use Rattle.rules.specs.October.{october}
-use Rattle.basin.specs.October.{octoberFile}
-use Rattle.basin.proofs.October.{october-checked}
-use Rattle.basin.specs.Check.{checkOf}
-use Rattle.layout.specs.File.{layoutOk}
-use Rattle.boards.specs.Calls.{fileRefusal, verdictRefusal}
-use Rattle.calls.proofs.Answers.{no-refusal}
+use Rattle.filecheck.specs.October.{octoberFile}
+use Rattle.filecheck.proofs.October.{october-checked}
+use Rattle.filecheck.specs.Check.{checkOf}
+use Rattle.sections.specs.File.{layoutOk}
+use Rattle.answers.proofs.Answers.{no-refusal}
 use Rattle.listing.specs.Listing.{decimalIn, decimalText, lineOf, rightLine, rightLines, endLine, outflowIn, evaporationIn, monthText, refusalLine, header}
 use Rattle.listing.specs.Run.{sheetOf, partRefusal, sheetStep, stepOf, nextStep, stepsText, begin, monthsText, afterHeader, listingOf, NamesFit}
 use Rattle.listing.specs.October.{octoberMonths, headLine, sevenLines, octoberNames, overMonths, refusedLine, Listed}
@@ -36,7 +40,7 @@ use Rattle.listing.specs.October.{octoberMonths, headLine, sevenLines, o
 -- by the basin that the file describes
 listing-is : (months : List ℕ) (names : ℕ → ℕ → ℕ) → listingOf octoberFile months names ≡ header ++ monthsText october months names
 unfolding listingOf afterHeader
-listing-is months names = rw (no-refusal octoberFile months (october-checked .accepted), october-checked .decoded)
+listing-is months names = rw (no-refusal octoberFile (october-checked .accepted), october-checked .decoded)
 
 -- its text, with the station named for each right left open
 abbrev line : ℕ → ℕ → ℕ → ℕ → ℕ → List ℕ
@@ -61,14 +65,14 @@ record Computed : Type 0 where
   these-fit : Fit octoberNames
 
 computed : Computed
-unfolding sumOver sumTo tab _and_ has firstAt follow carriesOn rowBelow path untilRow diverted reserved released returned along lowest lesser consumption returning sharesFrom shares partsAt partsOf lagged returnNow returnedAt bit scheduled demand anyOn called divertible riverPart withLevels afterDiversion riverStage storagePart storageStage returnStage shortage reasonOf keepIf lowestOn lowRows numberAt controlling turn gathered openingLevels opening turns afterTurns consumedBy returnedBy returnsAt areaFrom areaAt evaporation evaporations evaporated nextMonth month reasonNumber overLimit overAnswer freshCarried carriedOf wordOf placeOf boardOf storageSum dueSum grantNumber levelNumber reportPlace reportOf orElse unless freshBoard runOf dueAfter boardAfter le32At sheetOf partRefusal sheetStep stepOf nextStep stepsText begin monthsText monthText rightLines rightLine outflowIn evaporationIn
+unfolding sumOver sumTo tab _and_ has firstAt follow carriesOn rowBelow path untilRow diverted reserved released returned along lowest lesser consumption returning sharesFrom shares partsAt partsOf lagged returnNow returnedAt bit scheduled demand anyOn called divertible riverPart withLevels afterDiversion riverStage storagePart storageStage returnStage shortage reasonOf keepIf lowestOn lowRows numberAt controlling turn gathered openingLevels opening turns afterTurns consumedBy returnedBy returnsAt areaFrom areaAt evaporation evaporations evaporated nextMonth month reasonNumber overLimit overAnswer freshCarried carriedOf wordOf board.partAt boardBy boardParts boardOf storageSum dueSum grantNumber levelNumber report.partAt reportParts reportOf orElse unless freshBoard runOf dueAfter boardAfter le32At sheetOf partRefusal sheetStep stepOf nextStep stepsText begin monthsText monthText rightLines rightLine outflowIn evaporationIn
 computed = record {
   text = λ names. refl;
   only-these = λ names h. (h .0 0 (omega arith), h .0 1 (omega arith), h .0 2 (omega arith), h .0 3 (omega arith), h .0 4 (omega arith));
   these-fit = (allowed, (tt, tt));
 }
   where
-    allowed : (i : ℕ) → i < 5 → has (octoberNames 0 i) ((grantAt (runOf october (sheetOf 3 octoberMonths) (freshBoard october)) i) .stations) ≡ true
+    allowed : (i : ℕ) → i < 5 → has (octoberNames 0 i) ((grantAt ((runOf october (sheetOf 3 octoberMonths) (freshBoard october)) .turns) i) .stations) ≡ true
     allowed zero h = refl
     allowed (suc zero) h = refl
     allowed (suc (suc zero)) h = refl

@@ -8,7 +8,7 @@ use lib.ListN.{length, take, drop}
 use Rattle.general.proofs.Tests.{absurd-bool}
 use Rattle.rules.specs.Basin.{Basin}
 use Rattle.records.specs.Records.{basinOf}
-use Rattle.calls.proofs.Answers.{no-refusal}
+use Rattle.answers.proofs.Answers.{no-refusal}
 use Rattle.listing.specs.Listing.{header}
 use Rattle.listing.specs.Run.{sheetBytes, Standing, Step, stepOf, nextStep, stepsText, begin, monthsText, afterHeader, listingOf, IfMore, NamesFit}
 use Rattle.listing.specs.Steps.{Place, Walk, textsOf, StepsList, RefusalLists}
@@ -79,7 +79,7 @@ steps-list f months acc os to r e =
     record {
       names = w .names;
       allowed = w .allowed;
-      equation = ap (λ (l : List ℕ). header ++ l) (w .same) ∙ rw (no-refusal f months acc);
+      equation = ap (λ (l : List ℕ). header ++ l) (w .same) ∙ rw (no-refusal f acc);
     }
 
 pub refusal-lists : RefusalLists

@@ -1,15 +1,15 @@
 -- The lines of a listing (01, "One October, whole"), byte by byte.
 use mathlib.Core.Bool.{true, false}
 use mathlib.Core.List.{List, [], _∷_, _++_, map}
-use Prim.Native.Nat.{ℕ, zero, suc, _+_, _*_, _/_, _%_}
+use Prim.Native.Nat.{ℕ, zero, suc, _+_, _/_, _%_}
 use lib.Dec.{ltb}
 use lib.ListN.{length, getD}
 use Rattle.general.specs.Sums.{sumTo}
-use Rattle.rules.specs.Basin.{Right, Basin, noRight}
+use Rattle.rules.specs.Basin.{Right, Basin, noRight, rows}
 use Rattle.rules.specs.Path.{lastRow}
-use Rattle.rules.specs.Tally.{Answer}
+use Rattle.rules.specs.Answers.{Answer}
 use Rattle.boards.specs.Board.{storageSum, dueSum}
-use Rattle.boards.specs.Report.{rowsFrom, reservoirsFrom}
+use Rattle.places.specs.Report.{fromRiverPlace, fromStoragePlace, reasonPlace, flowPlace, evaporationPlace, nameIn}
 
 -- ---- a number
 
@@ -43,7 +43,7 @@ lineOf (w ∷ v ∷ l) = w ++ (space ∷ lineOf (v ∷ l))
 -- The line of right r, the i-th of the list: the month's count, the permit, and the four numbers that the report has of it.
 unfoldable pub rightLine : ℕ → Right → List ℕ → ℕ → List ℕ
 rightLine month r report i =
-    lineOf (map decimalText (month ∷ r .permit ∷ getD report (4 * i) 0 ∷ getD report (4 * i + 1) 0 ∷ getD report (4 * i + 2) 0 ∷ getD report (4 * i + 3) 0 ∷ []))
+    lineOf (map decimalText (month ∷ r .permit ∷ getD report (fromRiverPlace i) 0 ∷ getD report (fromStoragePlace i) 0 ∷ getD report (reasonPlace i) 0 ∷ nameIn report i ∷ []))
 
 -- the lines of the first n rights of the list
 unfoldable pub rightLines : ℕ → List Right → List ℕ → ℕ → List ℕ
@@ -63,11 +63,11 @@ endLine month outflow evaporation storage pending =
 
 -- outflow: the flow that the report has of the last row
 unfoldable pub outflowIn : Basin → List ℕ → ℕ
-outflowIn b report = getD report (rowsFrom b + 2 * lastRow b) 0
+outflowIn b report = getD report (flowPlace (length (b .rights)) (lastRow b)) 0
 
 -- what the report says that the reservoirs lost, together
 unfoldable pub evaporationIn : Basin → List ℕ → ℕ
-evaporationIn b report = sumTo (length (b .reservoirs)) (λ v. getD report (reservoirsFrom b + v) 0)
+evaporationIn b report = sumTo (length (b .reservoirs)) (λ v. getD report (evaporationPlace (length (b .rights)) (rows b) v) 0)
 
 -- A line for each right, and the end line, whose storage and returns on their way are those of the board that the month leaves.
 unfoldable pub monthText : Basin → ℕ → List ℕ → List ℕ → List ℕ

@@ -3,7 +3,7 @@ use mathlib.Core.List.{List, [], _∷_, _++_}
 use mathlib.Core.Path.{_≡_}
 use Prim.Native.Nat.{ℕ, _+_}
 use lib.ListN.{getD, take}
-use Rattle.basin.specs.October.{octoberFile}
+use Rattle.filecheck.specs.October.{octoberFile}
 use Rattle.listing.specs.Listing.{decimalText}
 use Rattle.listing.specs.Run.{listingOf, ListingNames}
 

@@ -7,11 +7,15 @@ use lib.Dec.{eqb}
 use lib.ListN.{length, take, drop}
 use Rattle.general.specs.Tables.{tab}
 use Rattle.rules.specs.Basin.{Basin, rows}
-use Rattle.rules.specs.Tally.{Answer, overLimit, overAnswer}
-use Rattle.layout.specs.Bytes.{le32At}
+use Rattle.rules.specs.declared.Verdict.the-variants.{Lists}
+use Rattle.rules.specs.Answers.{Answer}
+use Rattle.rules.specs.Tally.{overLimit, overAnswer}
+use Rattle.numbers.specs.Bytes.{le32At}
 use Rattle.records.specs.Records.{basinOf}
 use Rattle.boards.specs.Report.{reportOf}
-use Rattle.boards.specs.Calls.{fileRefusal, orElse, unless, freshBoard, runOf, boardAfter, NamesAllowed}
+use Rattle.answers.specs.Answers.{fileRefusal, orElse, unless}
+use Rattle.fresh.specs.Fresh.{freshBoard}
+use Rattle.month.specs.Month.{runOf, boardAfter, NamesAllowed}
 use Rattle.listing.specs.Listing.{monthText, refusalLine, header}
 
 -- ---- the file of months
@@ -26,7 +30,7 @@ sheetBytes b = 4 * rows b
 
 -- 6 where a part is no whole sheet, 8 at the first row whose runoff is over its limit
 unfoldable pub partRefusal : Basin → List ℕ → Option Answer
-partRefusal b part = orElse (unless (eqb (length part) (sheetBytes b)) 6) (overAnswer (overLimit (sheetOf (rows b) part)))
+partRefusal b part = orElse (unless (eqb (length part) (sheetBytes b)) Lists) (overAnswer (overLimit (sheetOf (rows b) part)))
 
 -- ---- what one part adds
 

@@ -7,11 +7,11 @@ use mathlib.Core.Path.{_≡_}
 use Prim.Native.Nat.{ℕ, _≤_}
 use lib.ListN.{length, take, drop}
 use Rattle.rules.specs.Basin.{Basin}
-use Rattle.rules.specs.Tally.{Answer}
-use Rattle.basin.specs.declared.Verdict.the-variants.{Accepted}
-use Rattle.basin.specs.Check.{checkOf}
+use Rattle.rules.specs.Answers.{Answer}
+use Rattle.rules.specs.declared.Verdict.the-variants.{Accepted}
+use Rattle.filecheck.specs.Check.{checkOf}
 use Rattle.records.specs.Records.{basinOf}
-use Rattle.boards.specs.Calls.{fileRefusal}
+use Rattle.answers.specs.Answers.{fileRefusal}
 use Rattle.listing.specs.Listing.{refusalLine, header}
 use Rattle.listing.specs.Run.{sheetBytes, Standing, Step, stepOf, begin, listingOf, PartNames, ListingNames}
 

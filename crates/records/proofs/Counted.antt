@@ -5,9 +5,9 @@ use mathlib.Core.List.{List}
 use Prim.Native.Nat.{ℕ, _*_}
 use native.Mathlib.Omega.{arith}
 use lib.ListN.{length}
-use Rattle.layout.specs.File.{widthOf, countOf, layoutOk, sectionOf}
+use Rattle.sections.specs.File.{widthOf, countOf, layoutOk, sectionOf}
 use Rattle.records.specs.Records.{rowsOf, reservoirCount, patternCount, rightCount}
-use Rattle.layout.proofs.Parts.{Laid, laid, ends-within, section-length}
+use Rattle.sections.proofs.Parts.{Laid, laid, ends-within, section-length}
 
 module _ (f : List ℕ) (e : layoutOk f ≡ true) where
   h : Laid f

@@ -1,11 +1,13 @@
 -- The decoded lists of a basin, record by record; those of the stations stand in Rows. Assumes nothing.
-use mathlib.Core.Path.{_≡_}
+use mathlib.Core.Path.{_≡_, refl}
 use mathlib.Core.List.{List, []}
 use Prim.Native.Nat.{ℕ, _<_}
 use lib.ListN.{length, getD}
 use Rattle.general.proofs.Tables.{tab-length, tab-at}
-use Rattle.rules.specs.Basin.{noReservoir, noRight}
-use Rattle.records.specs.Records.{reservoirCount, reservoirOf, reservoirsOf, patternCount, patternOf, patternsOf, rightCount, rightOf, rightsOf}
+use Rattle.rules.specs.Basin.{noReservoir, noRight, rows}
+use Rattle.sections.specs.File.{sectionOf}
+use Rattle.records.specs.Records.{reservoirCount, reservoirOf, reservoirsOf, patternCount, patternOf, patternsOf, rightCount, rightOf, rightsOf, rowsOf, bodies, basinOf}
+use Rattle.records.proofs.Rows.{rows-are}
 
 module _ (s : List ℕ) where
   pub reservoirs-are : length (reservoirsOf s) ≡ reservoirCount s
@@ -31,3 +33,22 @@ module _ (s : List ℕ) where
   pub right-is : (i : ℕ) → i < rightCount s → getD (rightsOf s) i noRight ≡ rightOf s i
   unfolding rightsOf
   right-is i h = tab-at (rightOf s) (rightCount s) i noRight h
+
+-- ---- the basin that four bodies make, and that of a file
+
+module _ (st rs ps ri : List ℕ) where
+  pub bodies-rows : rows (bodies st rs ps ri) ≡ rowsOf st
+  unfolding bodies
+  bodies-rows = rows-are st
+
+  pub bodies-reservoirs : length ((bodies st rs ps ri) .reservoirs) ≡ reservoirCount rs
+  unfolding bodies
+  bodies-reservoirs = reservoirs-are rs
+
+  pub bodies-rights : length ((bodies st rs ps ri) .rights) ≡ rightCount ri
+  unfolding bodies
+  bodies-rights = rights-are ri
+
+pub basin-bodies : (f : List ℕ) → basinOf f ≡ bodies (sectionOf f 0) (sectionOf f 1) (sectionOf f 2) (sectionOf f 3)
+unfolding basinOf bodies
+basin-bodies f = refl

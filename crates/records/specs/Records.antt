@@ -6,12 +6,15 @@ use Prim.Native.Nat.{ℕ, _+_, _-_, _*_, _/_}
 use lib.Dec.{eqb}
 use lib.ListN.{length, replicate}
 use Rattle.general.specs.Tables.{tab}
-use Rattle.rules.specs.Basin.{Station, Reservoir, Kind, direct, project, instream, storage, Right, Basin}
+use Rattle.rules.specs.Basin.{Station, Reservoir, direct, project, instream, storage, Right, Basin}
+use Rattle.rules.specs.Basin as rules
 use Rattle.records.specs.declared.stations.StationRecord.{StationRecord}
 use Rattle.records.specs.declared.reservoirs.ReservoirRecord.{ReservoirRecord}
+use Rattle.records.specs.declared.rights.Kind.{Kind}
+use Rattle.records.specs.declared.rights.Kind.the-variants.{Direct, Project, Instream, Storage}
 use Rattle.records.specs.declared.rights.RightRecord.{RightRecord}
-use Rattle.layout.specs.Bytes.{byteAt, le16At, le32At}
-use Rattle.layout.specs.File.{sectionOf}
+use Rattle.numbers.specs.Bytes.{byteAt, le16At, le32At}
+use Rattle.sections.specs.File.{sectionOf}
 
 -- ---- stations, 8 bytes each
 
@@ -79,11 +82,19 @@ sixteenPatterns s = patternsOf s ++ replicate (16 - patternCount s) (replicate 1
 abbrev pub rightCount : List ℕ → ℕ
 rightCount s = length s / 76
 
+-- the byte of a right's kind
+unfoldable pub kindByte : List ℕ → ℕ → ℕ
+kindByte s i = byteAt s (76 * i + 8)
+
+-- the kind that a byte stands for; the rules of the file let no byte through but 1 to 4
+unfoldable pub kindNamed : ℕ → Kind
+kindNamed x = cond (eqb x 1) Direct (cond (eqb x 2) Project (cond (eqb x 3) Instream Storage))
+
 unfoldable pub rightRecord : List ℕ → ℕ → RightRecord
 rightRecord s i = record {
   permit = le32At s (76 * i);
   date = le32At s (76 * i + 4);
-  kind = byteAt s (76 * i + 8);
+  kind = kindNamed (kindByte s i);
   row = byteAt s (76 * i + 9);
   reservoir = byteAt s (76 * i + 10);
   efficiency = byteAt s (76 * i + 11);
@@ -102,9 +113,12 @@ returnRow s i k = byteAt s (76 * i + 68 + 2 * k)
 unfoldable pub returnPercent : List ℕ → ℕ → ℕ → ℕ
 returnPercent s i k = byteAt s (76 * i + 69 + 2 * k)
 
--- the kind that a byte stands for; the check lets no byte through but these four
-unfoldable pub kindOf : ℕ → Kind
-kindOf k = cond (eqb k 1) direct (cond (eqb k 2) project (cond (eqb k 3) instream storage))
+-- a kind as the rules have it
+abbrev pub kindOf : Kind → rules.Kind
+kindOf Direct = direct
+kindOf Project = project
+kindOf Instream = instream
+kindOf Storage = storage
 
 -- its return points are the first pairs, as many as the record says
 unfoldable pub rightOf : List ℕ → ℕ → Right
@@ -125,12 +139,10 @@ rightOf s i = record {
 unfoldable pub rightsOf : List ℕ → List Right
 rightsOf s = tab (rightCount s) (rightOf s)
 
--- ---- the basin of a file
+-- ---- the basin of four bodies, and that of a file
+
+unfoldable pub bodies : List ℕ → List ℕ → List ℕ → List ℕ → Basin
+bodies st rs ps ri = record { stations = stationsOf st; reservoirs = reservoirsOf rs; patterns = patternsOf ps; rights = rightsOf ri }
 
 unfoldable pub basinOf : List ℕ → Basin
-basinOf f = record {
-  stations = stationsOf (sectionOf f 0);
-  reservoirs = reservoirsOf (sectionOf f 1);
-  patterns = patternsOf (sectionOf f 2);
-  rights = rightsOf (sectionOf f 3);
-}
+basinOf f = bodies (sectionOf f 0) (sectionOf f 1) (sectionOf f 2) (sectionOf f 3)

@@ -6,7 +6,7 @@ ghost use Rattle.rules.specs.Path.{rowBelow};
 ghost use Rattle.records.specs.Records.{rowsOf, stationsOf};
 ghost use Rattle.records.specs.Network.{belowOf, orderAt};
 ghost use Rattle.records.specs.Table.{belowCode, tableOf, stepOf, pathBy, OnTable};
-use layout::bytes::index;
+use numbers::index;
 
 // The next station downstream, where there is one.
 pub enum Below {

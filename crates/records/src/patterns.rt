@@ -3,7 +3,7 @@ ghost use mathlib.Core.Path.{_≡_};
 ghost use Prim.Native.Nat.{_≤_, _<_};
 ghost use Rattle.general.specs.Sums.{sum};
 ghost use Rattle.records.specs.Records.{patternCount, patternOf, sixteenPatterns};
-use layout::bytes::byte_sum;
+use numbers::bytes::byte_sum;
 
 // The sum of a pattern's percents.
 pub fn percent_sum(patterns: &[u8], p: usize) -> u32

@@ -2,8 +2,8 @@
 ghost use mathlib.Core.Path.{_≡_};
 ghost use Prim.Native.Nat.{_<_};
 ghost use Rattle.records.specs.Records.{reservoirCount, reservoirRecord, contentAt, depthAt};
-use layout::bytes::le16;
-use layout::bytes::le32;
+use numbers::bytes::le16;
+use numbers::bytes::le32;
 
 // The first 12 bytes of a reservoir's record. Its area-capacity table and its depths are read where they stand.
 pub struct ReservoirRecord {

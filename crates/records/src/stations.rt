@@ -2,7 +2,7 @@
 ghost use mathlib.Core.Path.{_≡_};
 ghost use Prim.Native.Nat.{_<_};
 ghost use Rattle.records.specs.Records.{rowsOf, stationRecord};
-use layout::bytes::le32;
+use numbers::bytes::le32;
 
 // A station's record but for its three zero bytes.
 pub struct StationRecord {

@@ -12,15 +12,17 @@ use Rattle.general.specs.Tables.{tab}
 use Rattle.general.specs.Tests.{has}
 use Rattle.general.proofs.Sums.{sum-append}
 use Rattle.general.proofs.Tests.{by-eqb, only-le}
+use Rattle.places.specs.Board.{duesOf, duePlace, dueAt, roomy}
 use Rattle.rules.specs.River.{Level, along, returned}
 use Rattle.rules.specs.Returns.{shares, Part, lagged, returnedAt}
 use Rattle.records.specs.Records.{returnRow, returnPercent}
 use Rattle.records.specs.Table.{pathBy}
-use Rattle.river.specs.Arrays.{levelsOf, CanReturn, Walked}
+use Rattle.river.specs.Arrays.{levelsOf, CanReturn, Walked, RiverOk}
 use Rattle.river.proofs.Table.{by-in}
 use Rattle.river.proofs.Levels.{change-idle, returned-read, returned-zero}
-use Rattle.returns.specs.Dues.{mostAmount, roomy, Lagged}
-use Rattle.returns.specs.Returning.{dueIn, pointsUpTo, partIn, partsIn, returnBy, RiverOk, Gave}
+use Rattle.rules.specs.Accepted.{mostAmount}
+use Rattle.returns.specs.Dues.{Lagged}
+use Rattle.returns.specs.Returning.{pointsUpTo, partIn, partsIn, returnBy, Gave}
 use Rattle.returns.proofs.Shares.{lagged-le, share-le}
 
 -- ---- lists of parts, one more
@@ -119,7 +121,7 @@ module _ (t pattern ri : List ℕ) (i rest : ℕ) (f a bd : List ℕ) where
     }
 
     module _ (q : Part) (at-once d : ℕ) (f₂ a₂ bd₂ : List ℕ) (part : q ≡ partIn ri i rest k) (whole : sum pattern ≡ 100) (row-in : q .row < 64) (small : q .amount ≤ mostAmount)
-        (now-is : at-once ≡ getD (shares (q .amount) pattern) 0 0) (split : Lagged pattern (q .amount) (266 + 11 * q .row) 11 bd₁ bd₂)
+        (now-is : at-once ≡ getD (shares (q .amount) pattern) 0 0) (split : Lagged pattern (q .amount) (duesOf (q .row)) 11 bd₁ bd₂)
         (back : Walked (returned at-once) (pathBy t (q .row)) f₁ a₁ f₂ a₂) where
       once-le : at-once ≤ mostAmount
       once-le = omega (arith, now-is, share-le (q .amount) pattern 0 whole, small)
@@ -133,14 +135,14 @@ module _ (t pattern ri : List ℕ) (i rest : ℕ) (f a bd : List ℕ) where
           ∙ ap (λ (qs : List Part). returnBy t pattern qs (levelsOf h f a)) (ap (λ (x : Part). partsIn ri i rest k ++ (x ∷ [])) part ∙ sym (parts-more ri i rest k))
 
       -- the dues of the point's row grow, the others stay
-      due-grown : (v s : ℕ) → s < 11 → dueIn bd₂ v s ≡ dueIn bd₁ v s + only (eqb (q .row) v) (lagged pattern (suc s) q)
-      due-grown v s l = by-eqb (q .row) v (λ b. dueIn bd₂ v s ≡ dueIn bd₁ v s + only b (lagged pattern (suc s) q))
-          (λ e. rw (← e) (split .each s l ∙ ap (λ (x : ℕ). getD bd₁ (266 + 11 * q .row + s) 0 + x) (lagged-is pattern (suc s) q)))
+      due-grown : (v s : ℕ) → s < 11 → dueAt bd₂ v (suc s) ≡ dueAt bd₁ v (suc s) + only (eqb (q .row) v) (lagged pattern (suc s) q)
+      due-grown v s l = by-eqb (q .row) v (λ b. dueAt bd₂ v (suc s) ≡ dueAt bd₁ v (suc s) + only b (lagged pattern (suc s) q))
+          (λ e. rw (← e) (split .each s l ∙ ap (λ (x : ℕ). getD bd₁ (duePlace (q .row) s) 0 + x) (lagged-is pattern (suc s) q)))
           (λ e. aside e (decLt v (q .row)))
         where
-          aside : (q .row ≡ v → ⊥) → Dec (v < q .row) → dueIn bd₂ v s ≡ dueIn bd₁ v s + 0
-          aside e (yes h) = omega (arith, split .under (266 + 11 * v + s) (omega arith))
-          aside e (no h) = omega (arith, split .over (266 + 11 * v + s) (omega arith))
+          aside : (q .row ≡ v → ⊥) → Dec (v < q .row) → dueAt bd₂ v (suc s) ≡ dueAt bd₁ v (suc s) + 0
+          aside e (yes h) = omega (arith, split .under (duePlace v s) (omega arith))
+          aside e (no h) = omega (arith, split .over (duePlace v s) (omega arith))
 
       pub gave-more : Gave t pattern ri i (k + 1) rest f a bd f₂ a₂ bd₂
       gave-more = record {
@@ -158,5 +160,5 @@ module _ (t pattern ri : List ℕ) (i rest : ℕ) (f a bd : List ℕ) where
         available-size = back .available-size ∙ w .available-size;
         grown = λ x l. omega (arith, put-grown f₁ a₁ (pathBy t (q .row)) at-once f₂ a₂ back x l, w .grown x l, once-le);
         within = λ x l. put-within f₁ a₁ (pathBy t (q .row)) at-once f₂ a₂ back x l (w .within x l);
-        filled = λ j. omega (arith, lagged-le pattern (q .amount) (266 + 11 * q .row) bd₁ 11 bd₂ whole split j, w .filled j, small);
+        filled = λ j. omega (arith, lagged-le pattern (q .amount) (duesOf (q .row)) bd₁ 11 bd₂ whole split j, w .filled j, small);
       }

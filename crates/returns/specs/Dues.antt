@@ -1,21 +1,12 @@
 -- What the split of a return asks of the dues, and what it leaves.
+use Rattle.rules.specs.Accepted.{mostAmount}
+use Rattle.places.specs.Board.{roomy, Roomy}
 use mathlib.Core.List.{List}
 use mathlib.Core.Path.{_≡_}
 use Prim.Native.Nat.{ℕ, suc, _+_, _*_, _/_, _≤_, _<_}
 use lib.ListN.{length, getD}
 use Rattle.general.specs.Sums.{sum}
 use Rattle.rules.specs.Returns.{shares}
-
--- the largest amount of a right in a month
-abbrev pub mostAmount : ℕ
-mostAmount = 1_000_000_000
-
--- every number of a board has room for more
-abbrev pub roomy : ℕ
-roomy = 4611686018427387904
-
-pub record Roomy (l : List ℕ) (most : ℕ) : Type 0 where
-  pub room : (j : ℕ) → getD l j 0 ≤ most
 
 pub record CanAddShare (l : List ℕ) (place before a c p : ℕ) : Type 0 where
   pub on : place < length l

@@ -1,20 +1,19 @@
 -- What of a diversion returns: over the return points of a right, as its record has them, then over the months.
+use Rattle.returns.specs.declared.returning.Return.{Return}
 use mathlib.Core.List.{List, [], _∷_}
 use mathlib.Core.Path.{_≡_}
 use Prim.Native.Nat.{ℕ, suc, _+_, _-_, _*_, _/_, _≤_, _<_}
 use lib.ListN.{length, getD}
 use Rattle.general.specs.Sums.{sumTo}
 use Rattle.general.specs.Tables.{tab}
+use Rattle.places.specs.Board.{duesFrom, dueAt, roomy, BoardOk}
 use Rattle.rules.specs.River.{Level, along, returned}
 use Rattle.rules.specs.Returns.{Part, lagged, returnedAt}
 use Rattle.records.specs.Records.{rightCount, returnRow, returnPercent}
-use Rattle.records.specs.Table.{pathBy, Downhill}
-use Rattle.river.specs.Arrays.{levelsOf}
-use Rattle.returns.specs.Dues.{mostAmount, roomy, Roomy, Whole}
-
--- the due of row w, k + 1 months on
-abbrev pub dueIn : List ℕ → ℕ → ℕ → ℕ
-dueIn bd w k = getD bd (266 + 11 * w + k) 0
+use Rattle.records.specs.Table.{pathBy}
+use Rattle.river.specs.Arrays.{levelsOf, RiverOk}
+use Rattle.rules.specs.Accepted.{mostAmount}
+use Rattle.returns.specs.Dues.{Whole}
 
 -- the sum of the percents of the first k return points
 abbrev pub pointsUpTo : List ℕ → ℕ → ℕ → ℕ
@@ -34,18 +33,6 @@ returnBy t pattern (q ∷ qs) l = returnBy t pattern qs (along (returned (lagged
 
 -- ---- what is asked of the arrays
 
--- a place for each row, available flow at most the flow, and room for more
-pub record RiverOk (t f a : List ℕ) (most : ℕ) : Type 0 where
-  pub downhill : Downhill t
-  pub places : 64 ≤ length f
-  pub places₂ : 64 ≤ length a
-  pub room : (w : ℕ) → w < 64 → getD f w 0 ≤ most
-  pub within : (w : ℕ) → w < 64 → getD a w 0 ≤ getD f w 0
-
-pub record BoardOk (bd : List ℕ) (most : ℕ) : Type 0 where
-  pub size : length bd ≡ 970
-  pub room : Roomy bd most
-
 -- the n return points of right i, and the pattern that they share
 pub record PointsOk (pa : List (List ℕ)) (ri : List ℕ) (i n which : ℕ) : Type 0 where
   pub right-in : i < rightCount ri
@@ -55,9 +42,9 @@ pub record PointsOk (pa : List (List ℕ)) (ri : List ℕ) (i n which : ℕ) : T
   pub known : 0 < n → which < 16
   pub whole : 0 < n → Whole (getD pa which [])
 
-pub record CanGive (t : List ℕ) (pa : List (List ℕ)) (ri : List ℕ) (i n which rest : ℕ) (f a bd : List ℕ) : Type 0 where
-  pub points-ok : PointsOk pa ri i n which
-  pub small : rest ≤ mostAmount
+pub record CanGive (t : List ℕ) (pa : List (List ℕ)) (ri : List ℕ) (back : Return) (f a bd : List ℕ) : Type 0 where
+  pub points-ok : PointsOk pa ri (back .right) (back .points) (back .pattern)
+  pub small : back .amount ≤ mostAmount
   pub river : RiverOk t f a roomy
   pub board : BoardOk bd roomy
 
@@ -65,8 +52,8 @@ pub record CanGive (t : List ℕ) (pa : List (List ℕ)) (ri : List ℕ) (i n wh
 
 pub record Gave (t pattern ri : List ℕ) (i n rest : ℕ) (f a bd f′ a′ bd′ : List ℕ) : Type 0 where
   pub levels : (h : ℕ) → levelsOf h f′ a′ ≡ returnBy t pattern (partsIn ri i rest n) (levelsOf h f a)
-  pub dues : (w k : ℕ) → k < 11 → dueIn bd′ w k ≡ dueIn bd w k + returnedAt pattern w (suc k) (partsIn ri i rest n)
-  pub same : (j : ℕ) → j < 266 → getD bd′ j 0 ≡ getD bd j 0
+  pub dues : (w k : ℕ) → k < 11 → dueAt bd′ w (suc k) ≡ dueAt bd w (suc k) + returnedAt pattern w (suc k) (partsIn ri i rest n)
+  pub same : (j : ℕ) → j < duesFrom → getD bd′ j 0 ≡ getD bd j 0
   pub size : length bd′ ≡ length bd
   pub flow-size : length f′ ≡ length f
   pub available-size : length a′ ≡ length a

@@ -1,13 +1,14 @@
 // The returns of a diversion.
+ghost use Prim.Native.Nat.{_<_};
 ghost use mathlib.Core.List.{[]};
 ghost use lib.ListN.{getD};
 ghost use Rattle.rules.specs.River.{returned};
 ghost use Rattle.records.specs.Table.{pathBy};
 ghost use Rattle.river.specs.Arrays.{CanReturn, Walked};
 ghost use Rattle.returns.specs.Returning.{CanGive, Gave};
-use crate::numbers::wide8;
 use crate::split::split;
-use layout::bytes::index;
+use numbers::index;
+use numbers::wide8;
 use records::rights::return_percent;
 use records::rights::return_row;
 use river::put_back;
@@ -29,31 +30,61 @@ fn give_share(
     put_back(below, flow, available, row, share);
 }
 
-// What returns of `rest` over the points of right i: the share of this month goes back to the river along the point's path, later shares are added to the dues.
-pub fn give_returns(
+// What of a diversion returns: whose, over how many of its return points, by which pattern, and how much.
+pub struct Return {
+    pub right: usize,
+    pub points: usize,
+    pub pattern: usize,
+    pub amount: u64,
+}
+
+// At each point the share of this month goes back to the river along the point's path; later shares are added to the dues. The
+// pattern is taken from the table once, since a copy of the table for each point costs more than its shares.
+fn give_points(
     below: &[u8; 64],
     patterns: [[u8; 12]; 16],
     rights: &[u8],
-    i: usize,
-    points: usize,
-    which: usize,
-    rest: u64,
+    back: Return,
     flow: &mut [u64; 64],
     available: &mut [u64; 64],
     board: &mut [u64],
 )
-    requires { ⌜ CanGive (now below) patterns (now rights) i points which rest (now flow) (now available) (now board) ⌝ }
-    ensures { λ _. ⌜ Gave (now (below .entry)) (getD patterns which []) (now (rights .entry)) i points rest (now (flow .entry)) (now (available .entry)) (now (board .entry)) (now (flow .exit)) (now (available .exit)) (now (board .exit)) ⌝ }
+    requires { ⌜ CanGive (now below) patterns (now rights) back (now flow) (now available) (now board) × (0 < back .points) ⌝ }
+    ensures { λ _. ⌜ Gave (now (below .entry)) (getD patterns (back .pattern) []) (now (rights .entry)) (back .right) (back .points) (back .amount) (now (flow .entry)) (now (available .entry)) (now (board .entry)) (now (flow .exit)) (now (available .exit)) (now (board .exit)) ⌝ }
 {
+    let i = back.right;
+    let points = back.points;
+    let which = back.pattern;
+    let rest = back.amount;
+    let pattern = patterns[which];
     let mut c: u64 = 0;
     let mut before: u64 = 0;
     for k in 0..points {
         let p = wide8(return_percent(rights, i, k));
         let next = rest * (c + p) / 100;
         let row = index(return_row(rights, i, k));
-        let at_once = split(patterns, which, next - before, row, board);
+        let at_once = split(pattern, next - before, row, board);
         give_share(below, flow, available, row, at_once);
         before = next;
         c += p;
     }
+}
+
+// What returns goes back at the right's points. A right without points names no pattern, and the table is not copied for it.
+pub fn give_returns(
+    below: &[u8; 64],
+    patterns: &[[u8; 12]; 16],
+    rights: &[u8],
+    back: Return,
+    flow: &mut [u64; 64],
+    available: &mut [u64; 64],
+    board: &mut [u64],
+)
+    requires { ⌜ CanGive (now below) (now patterns) (now rights) back (now flow) (now available) (now board) ⌝ }
+    ensures { λ _. ⌜ Gave (now (below .entry)) (getD (now (patterns .entry)) (back .pattern) []) (now (rights .entry)) (back .right) (back .points) (back .amount) (now (flow .entry)) (now (available .entry)) (now (board .entry)) (now (flow .exit)) (now (available .exit)) (now (board .exit)) ⌝ }
+{
+    if back.points == 0 {
+        return;
+    }
+    give_points(below, *patterns, rights, back, flow, available, board);
 }

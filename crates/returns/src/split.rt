@@ -1,11 +1,12 @@
 // The split of a return over the twelve months of a delay pattern.
 ghost use mathlib.Core.Path.{_≡_};
 ghost use Prim.Native.Nat.{_+_, _*_, _-_, _/_, _≤_, _<_};
-ghost use lib.ListN.{length, getD, set};
-ghost use mathlib.Core.List.{[]};
+ghost use lib.ListN.{getD, set};
+ghost use Rattle.places.specs.Board.{duesOf};
 ghost use Rattle.rules.specs.Returns.{shares};
 ghost use Rattle.returns.specs.Dues.{CanAddShare, CanSplit, Lagged};
-use crate::numbers::wide8;
+use numbers::wide8;
+use places::board::dues_of;
 
 // Adds to a due the share of a that lies between the sums c and c + p of percents; `before` is floor (a × c / 100). Answers the same for c + p. A share of 0 percent is no work.
 fn add_share(dues: &mut [u64], place: usize, before: u64, a: u64, c: u64, p: u64) -> u64
@@ -36,11 +37,10 @@ pub fn split_months(pattern: [u8; 12], a: u64, at: usize, dues: &mut [u64]) -> u
     at_once
 }
 
-// The same by one of sixteen patterns, to the dues of a row.
-pub fn split(patterns: [[u8; 12]; 16], which: usize, a: u64, row: usize, board: &mut [u64]) -> u64
-    requires { ⌜ (which < 16) × (row < 64) × CanSplit (getD patterns which []) a (266 + 11 * row) (now board) ⌝ }
-    ensures { λ r. ⌜ (r ≡ getD (shares a (getD patterns which [])) 0 0) × (r ≤ a) × Lagged (getD patterns which []) a (266 + 11 * row) 11 (now (board .entry)) (now (board .exit)) ⌝ }
+// The same to the dues of a row.
+pub fn split(pattern: [u8; 12], a: u64, row: usize, board: &mut [u64]) -> u64
+    requires { ⌜ (row < 64) × CanSplit pattern a (duesOf row) (now board) ⌝ }
+    ensures { λ r. ⌜ (r ≡ getD (shares a pattern) 0 0) × (r ≤ a) × Lagged pattern a (duesOf row) 11 (now (board .entry)) (now (board .exit)) ⌝ }
 {
-    let pattern = patterns[which];
-    split_months(pattern, a, 266 + 11 * row, board)
+    split_months(pattern, a, dues_of(row), board)
 }

@@ -9,7 +9,7 @@ use lib.IntN.{pos}
 use Rattle.general.specs.Tables.{tab}
 use Rattle.general.specs.Tests.{has}
 use Rattle.rules.specs.River.{Level, along}
-use Rattle.records.specs.Table.{pathBy, OnTable}
+use Rattle.records.specs.Table.{pathBy, OnTable, Downhill}
 use Rattle.river.specs.declared.Seen.{Seen}
 use Rattle.river.specs.declared.Seen.the-variants.{Called, Low}
 
@@ -44,6 +44,14 @@ pub record Enough (d : ℕ) (p l : List ℕ) : Type 0 where
 -- at each row of p there is room for d more
 pub record Room (d : ℕ) (p l : List ℕ) : Type 0 where
   pub fits : (k : ℕ) → has k p ≡ true → getD l k 0 + d < 18446744073709551616
+
+-- the river of a month: a place for each row, available flow at most the flow, and room for more
+pub record RiverOk (t f a : List ℕ) (most : ℕ) : Type 0 where
+  pub downhill : Downhill t
+  pub places : 64 ≤ length f
+  pub places₂ : 64 ≤ length a
+  pub room : (w : ℕ) → w < 64 → getD f w 0 ≤ most
+  pub within : (w : ℕ) → w < 64 → getD a w 0 ≤ getD f w 0
 
 pub record CanDivert (t : List ℕ) (row d : ℕ) (f a : List ℕ) : Type 0 where
   pub row-ok : OnTable t row

@@ -1,11 +1,13 @@
 // Calls fresh, month and stock on the October basin, with numbers that are turned down and then with good ones, and prints each answer. The
 // good month comes last, so it shows that the calls before it changed nothing.
 ghost use Rattle.io.specs.Counts.{Counts};
-use calls::answer::Answer;
-use calls::fresh::fresh;
-use calls::stock::stock;
+use answers::Answer;
+use fresh::fresh;
 use libc::STDOUT_FILENO;
-use monthrun::month::month;
+use month::month;
+use places::board::BOARD_LENGTH;
+use places::board::MONTH;
+use stock::stock;
 
 fn read_october(buf: &mut [u8]) -> usize
     ensures { λ r. ⌜ Counts r (now (buf .exit)) ⌝ }
@@ -26,16 +28,16 @@ fn say_number(n: u64) {
 
 fn say(what: &[u8], answer: Answer) {
     io::write_all(STDOUT_FILENO, what);
-    say_number(answer.number as u64);
-    say_number(answer.place as u64);
+    say_number(answer.number);
+    say_number(answer.place);
     io::write_all(STDOUT_FILENO, b"\n");
 }
 
 fn say_stock(file: &[u8], board: &[u64]) {
     let sums = stock(file, board);
     io::write_all(STDOUT_FILENO, b"stock");
-    say_number(sums.number as u64);
-    say_number(sums.place as u64);
+    say_number(sums.number);
+    say_number(sums.place);
     say_number(sums.storage);
     say_number(sums.due);
     io::write_all(STDOUT_FILENO, b"\n");
@@ -44,7 +46,7 @@ fn say_stock(file: &[u8], board: &[u64]) {
 // Refusal 6: a list that is too short or too long.
 fn wrong_lengths(file: &[u8], board: &mut [u64], report: &mut [u64]) {
     let sheet = [2000u32, 700, 300, 0];
-    let mut short = [0u64; 969];
+    let mut short = [0u64; BOARD_LENGTH - 1];
     say(b"fresh, board of 969:", fresh(file, &mut short));
     say(
         b"month, board of 969:",
@@ -68,8 +70,8 @@ fn wrong_lengths(file: &[u8], board: &mut [u64], report: &mut [u64]) {
 // Refusal 7: a board that no run of months can leave. Refusal 8: runoff over its limit.
 fn wrong_numbers(file: &[u8], board: &mut [u64], report: &mut [u64]) {
     let sheet = [2000u32, 1000000001, 4294967295];
-    let mut thirteenth = [0u64; 970];
-    thirteenth[0] = 12;
+    let mut thirteenth = [0u64; BOARD_LENGTH];
+    thirteenth[MONTH] = 12;
     say(
         b"month, board of a thirteenth month:",
         month(file, &sheet, &mut thirteenth, report),
@@ -82,7 +84,7 @@ fn wrong_numbers(file: &[u8], board: &mut [u64], report: &mut [u64]) {
 }
 
 fn call(file: &[u8]) {
-    let mut board = [7u64; 970];
+    let mut board = [7u64; BOARD_LENGTH];
     let mut report = [0u64; 27];
     say(b"fresh, no file:", fresh(&file[..0], &mut board));
     say(b"fresh:", fresh(file, &mut board));

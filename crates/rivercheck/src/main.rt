@@ -1,8 +1,7 @@
 // Checks the basin files that its arguments name, and prints a line for each: accepted, or refused with the number of document 01 and the
 // first record at fault. A file that cannot be read is said to be that and never judged; the reason goes to standard error.
-use basin::check::check;
-use basin::check::number;
-use basin::check::place;
+use answers::Answer;
+use answers::judge_file;
 use files::fill;
 use libc::STDOUT_FILENO;
 
@@ -14,29 +13,28 @@ fn print_line(path: &[u8], said: &[u8]) -> bool {
     io::write_all(STDOUT_FILENO, said)
 }
 
-fn print_refusal(path: &[u8], refusal: u32, place: usize) -> bool {
+fn print_refusal(path: &[u8], refusal: Answer) -> bool {
     if !print_line(path, b" refused ") {
         return false;
     }
-    if !io::print_decimal(STDOUT_FILENO, refusal as u64) {
+    if !io::print_decimal(STDOUT_FILENO, refusal.number) {
         return false;
     }
     if !io::write_all(STDOUT_FILENO, b" ") {
         return false;
     }
-    if !io::print_decimal(STDOUT_FILENO, place as u64) {
+    if !io::print_decimal(STDOUT_FILENO, refusal.place) {
         return false;
     }
     io::write_all(STDOUT_FILENO, b"\n")
 }
 
 fn print_verdict(path: &[u8], file: &[u8]) -> bool {
-    let verdict = check(file);
-    let refusal = number(verdict);
-    if refusal == 0 {
+    let answer = judge_file(file);
+    if answer.number == 0 {
         return print_line(path, b" accepted\n");
     }
-    print_refusal(path, refusal, place(verdict))
+    print_refusal(path, answer)
 }
 
 fn print_unread(path: &[u8]) -> bool {

@@ -1,4 +1,6 @@
 -- What the program keeps while it lists a block that it has read. Assumes nothing.
+use Rattle.places.specs.Report.{mostReport}
+use Rattle.places.specs.Board.{boardLength}
 use mathlib.Core.Bool.{Bool, true, false, cond}
 use mathlib.Core.List.{List}
 use mathlib.Core.Option.{Option, none, some}
@@ -9,17 +11,16 @@ use lib.Dec.{ltb}
 use lib.ListN.{length, take, drop, length-take, length-drop}
 use lib.Seq.{length-take-le}
 use Rattle.general.proofs.Tests.{absurd-bool, not-lt-of}
-use Rattle.rules.specs.Tally.{Answer}
-use Rattle.layout.specs.File.{sectionOf}
+use Rattle.rules.specs.Answers.{Answer}
+use Rattle.sections.specs.File.{sectionOf}
 use Rattle.records.specs.Records.{rowsOf, basinOf}
-use Rattle.basin.specs.declared.Verdict.the-variants as verdict
-use Rattle.basin.specs.Check.{checkOf}
-use Rattle.basin.proofs.Accepted.{accepted-facts}
+use Rattle.rules.specs.declared.Verdict.the-variants as verdict
+use Rattle.filecheck.specs.Check.{checkOf}
+use Rattle.filecheck.proofs.Accepted.{accepted-facts}
 use Rattle.boards.specs.Board.{possible}
-use Rattle.boards.specs.Calls.{fileRefusal}
-use Rattle.calls.specs.Answers.{settled}
-use Rattle.calls.proofs.Answers.{accepted-of}
-use Rattle.ledger.proofs.Tally.{fresh-can}
+use Rattle.answers.specs.Answers.{fileRefusal, settled}
+use Rattle.answers.proofs.Answers.{accepted-of}
+use Rattle.fresh.proofs.Start.{fresh-can}
 use Rattle.lines.specs.Putting.{mostText}
 use Rattle.listing.specs.Run.{sheetBytes, Step, begin}
 use Rattle.lister.specs.declared.Progress.{Progress}
@@ -53,10 +54,7 @@ module _ (f : List ℕ) (sheet : ℕ) (block : List ℕ) (p : Progress) (bd rp o
       pub can-list : CanListBlock f (take (length block - done) (drop done block)) (record { months = q .months; at = at; more = true }) bd₁ rp₁ out₁
       can-list = record {
         step = record {
-          accepted = k .going .accepted;
-          size = k .going .size;
-          can = k .going .can;
-          told = k .going .told;
+          in-order = k .going .in-order;
           room = room;
           counted = omega (arith, k .counted, k .within, c .counted);
         };
@@ -69,10 +67,7 @@ module _ (f : List ℕ) (sheet : ℕ) (block : List ℕ) (p : Progress) (bd rp o
           → Kept f block p bd₂ rp₂ out₂ (l .progress) (done + l .used)
       kept-more last bd₂ rp₂ out₂ l eb er eo w = record {
         going = record {
-          accepted = k .going .accepted;
-          size = eb ∙ k .going .size;
-          can = w .can;
-          told = omega (arith, k .going .told, er);
+          in-order = record { accepted = k .going .in-order .accepted; size = eb ∙ k .going .in-order .size; can = w .can; told = omega (arith, k .going .in-order .told, er) };
           room = omega (arith, k .going .room, eo);
           within = w .within;
         };
@@ -93,7 +88,7 @@ module _ (f : List ℕ) (sheet : ℕ) (block : List ℕ) (p : Progress) (bd rp o
 
 -- a sheet has some bytes
 pub some-sheet : (f : List ℕ) (sheet : ℕ) (block : List ℕ) (p : Progress) (bd rp out : List ℕ) → CanListFile f sheet block p bd rp out → 0 < sheet
-some-sheet f sheet block p bd rp out c = omega (arith, c .bytes, accepted-facts f (c .going .accepted) .connected .some-row)
+some-sheet f sheet block p bd rp out c = omega (arith, c .bytes, accepted-facts f (c .going .in-order .accepted) .connected .some-row)
 
 module _ (f : List ℕ) (sheet : ℕ) (block₀ : List ℕ) (p₀ : Progress) (bd₀ rp₀ out₀ : List ℕ) (c : CanListFile f sheet block₀ p₀ bd₀ rp₀ out₀)
     (p : Progress) (blocks : ℕ) (bd rp out : List ℕ) (going : Going f (p .at) bd rp out) (more : p .more ≡ true) (counted : p .months + 65536 * blocks ≤ 9_223_372_036_854_775_808) (left : 0 < blocks)
@@ -120,14 +115,11 @@ module _ (f st : List ℕ) (acc : checkOf f ≡ verdict.Accepted) (e : st ≡ se
   pub sheet-some : 0 < 4 * rowsOf st
   sheet-some = omega (arith, sheet-is, accepted-facts f acc .connected .some-row)
 
-  pub can-file : (block : List ℕ) (p : Progress) (bd rp out : List ℕ) → length bd ≡ 970 → possible (basinOf f) bd ≡ true → length out ≡ 65536 → p .at ≤ 65536 → p .months ≡ 0 → p .more ≡ true
-      → length rp ≡ 1160 → length block ≤ 65536 → CanListFile f (4 * rowsOf st) block p bd rp out
+  pub can-file : (block : List ℕ) (p : Progress) (bd rp out : List ℕ) → length bd ≡ boardLength → possible (basinOf f) bd ≡ true → length out ≡ 65536 → p .at ≤ 65536 → p .months ≡ 0 → p .more ≡ true
+      → length rp ≡ mostReport → length block ≤ 65536 → CanListFile f (4 * rowsOf st) block p bd rp out
   can-file block p bd rp out size can room within first more told few = record {
     going = record {
-      accepted = acc;
-      size = size;
-      can = can;
-      told = let a = accepted-facts f acc in omega (arith, told, a .few-rows, a .few-rights, a .few-reservoirs);
+      in-order = record { accepted = acc; size = size; can = can; told = let a = accepted-facts f acc in omega (arith, told, a .few-rows, a .few-rights, a .few-reservoirs) };
       room = omega (arith, room);
       within = omega (arith, room, within);
     };

@@ -4,21 +4,15 @@ use mathlib.Core.List.{List}
 use mathlib.Core.Path.{_≡_}
 use Prim.Native.Nat.{ℕ, _+_, _≤_, _<_}
 use lib.ListN.{length}
-use Rattle.rules.specs.Tally.{reportLength}
-use Rattle.basin.specs.declared.Verdict.the-variants.{Accepted}
-use Rattle.basin.specs.Check.{checkOf}
 use Rattle.records.specs.Records.{basinOf}
-use Rattle.boards.specs.Board.{possible}
 use Rattle.lines.specs.Putting.{mostText}
 use Rattle.listing.specs.Run.{sheetBytes}
 use Rattle.lister.specs.declared.Progress.{Progress}
+use Rattle.lister.specs.Lister.{InOrder}
 
--- an accepted file, a possible board, room for a report and a month's text, and a text that ends within its list
+-- what is in order for a listing, room for a month's text, and a text that ends within its list
 pub record Going (f : List ℕ) (at : ℕ) (board report out : List ℕ) : Type 0 where
-  pub accepted : checkOf f ≡ Accepted
-  pub size : length board ≡ 970
-  pub can : possible (basinOf f) board ≡ true
-  pub told : reportLength (basinOf f) ≤ length report
+  pub in-order : InOrder f board report
   pub room : mostText ≤ length out
   pub within : at ≤ length out
 

@@ -4,18 +4,20 @@ ghost use mathlib.Core.Bool.{true, false, cond};
 ghost use Prim.Native.Nat.{_≤_, _<_};
 ghost use lib.Dec.{ltb};
 ghost use lib.ListN.{length};
-ghost use Rattle.basin.specs.declared.Verdict.the-variants.{Accepted};
-ghost use Rattle.basin.specs.Check.{checkOf};
+ghost use Rattle.rules.specs.declared.Verdict.the-variants.{Accepted};
+ghost use Rattle.filecheck.specs.Check.{checkOf};
 ghost use Rattle.records.specs.Records.{basinOf};
+ghost use Rattle.places.specs.Board.{boardLength};
 ghost use Rattle.boards.specs.Board.{possible};
 ghost use Rattle.riverrun.specs.Going.{CanRead, CanListFile, Went};
 use crate::output::make_room;
 use crate::output::write;
 use files::fill;
-use layout::contents::STATIONS;
-use layout::contents::section;
 use lister::Progress;
 use lister::blocks::list_block;
+use places::report::MOST_REPORT;
+use sections::STATIONS;
+use sections::section;
 
 // How far the listing has come, and whether all that had to be written was.
 struct Sent {
@@ -148,12 +150,12 @@ pub fn list_all(
     board: &mut [u64],
     out: &mut [u8],
 ) -> bool
-    requires { ⌜ (checkOf (now file) ≡ Accepted) × (length (now board) ≡ 970) × (possible (basinOf (now file)) (now board) ≡ true) × (length (now out) ≡ 65536) × (from .at ≤ 65536) × (from .months ≡ 0) × (from .more ≡ true) ⌝ }
+    requires { ⌜ (checkOf (now file) ≡ Accepted) × (length (now board) ≡ boardLength) × (possible (basinOf (now file)) (now board) ≡ true) × (length (now out) ≡ 65536) × (from .at ≤ 65536) × (from .months ≡ 0) × (from .more ≡ true) ⌝ }
 {
     let size = 4 * (section(file, STATIONS).len() / 8);
     let full = 65536 - 65536 % size;
     let mut space = io::large_buffer();
-    let mut report = [0u64; 1160];
+    let mut report = [0u64; MOST_REPORT];
     let sent = list_blocks(
         fd,
         path,

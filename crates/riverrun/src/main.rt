@@ -4,6 +4,7 @@ ghost use Prim.Native.Nat.{_<_};
 ghost use Rattle.io.specs.Counts.{Counts};
 use files::fill;
 use lister::opening::open_listing;
+use places::board::BOARD_LENGTH;
 
 mod blocks;
 mod output;
@@ -30,7 +31,7 @@ fn read_basin(path: &[u8], buf: &mut [u8]) -> usize
 
 // The listing of a basin. Answers whether it could be written. Months that can't be opened are listed as none.
 fn list_months(file: &[u8], months: &[u8]) -> bool {
-    let mut board = [0u64; 970];
+    let mut board = [0u64; BOARD_LENGTH];
     let mut out = io::large_buffer();
     let opened = open_listing(file, &mut board, &mut out);
     let at = opened.at;

@@ -15,16 +15,13 @@ use Rattle.general.proofs.Lists.{set-within, getD-zeros, length-cond}
 use Rattle.general.proofs.Tables.{tab-at, tab-past}
 use Rattle.rules.specs.Basin.{Kind, direct, project, instream, storage, Right, Basin, noRight, reservoirAt, rightAt, reservoirOf}
 use Rattle.rules.specs.River.{availableAt, lowest, lesser}
-use Rattle.rules.specs.Turn.{State, pathOf, storageOf, markOf, bit, scheduled, demand, called, divertible, riverPart, withLevels, riverStage, storagePart, storageStage, returnStage, granted, Turn, turn}
+use Rattle.rules.specs.Turn.{State, pathOf, storageOf, markOf, scheduled, demand, called, divertible, riverPart, withLevels, riverStage, storagePart, storageStage, returnStage, granted, Turn, turn}
+use Rattle.general.specs.Tests.{bit}
 use Rattle.rules.specs.Month.{Carried, opening, turns, afterTurns, returnedBy, returnsAt, evaporations, evaporated, nextMonth, month}
-use Rattle.rules.specs.Accepted.{GoodRight, Accepted}
+use Rattle.rules.specs.Accepted.{GoodRight, Accepted, mostAmount}
 use Rattle.rules.proofs.River.{lesser-le}
 use Rattle.rules.proofs.Splits.{returned-le}
 use Rattle.rules.proofs.Months.{turns-length, evaporated-length}
-
--- the largest amount of a right in a month
-abbrev pub mostAmount : ℕ
-mostAmount = 1_000_000_000
 
 -- ---- a grant is at most its demand, and a demand at most the amount
 

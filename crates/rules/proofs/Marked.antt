@@ -6,12 +6,12 @@ use native.Mathlib.Omega.{arith}
 use Rattle.general.specs.Sums.{sumOver, sumOverℤ, sumTo}
 use Rattle.general.specs.Tables.{tab}
 use Rattle.general.specs.Routes.{follow}
-use Rattle.general.specs.Tests.{_and_, has, firstAt}
+use Rattle.general.specs.Tests.{_and_, has, firstAt, bit}
 use Rattle.rules.specs.Basin.{Kind, Right, Basin}
 use Rattle.rules.specs.Path.{carriesOn, rowBelow, path, untilRow}
 use Rattle.rules.specs.River.{diverted, reserved, released, returned, along, lowest, lesser}
 use Rattle.rules.specs.Returns.{consumption, returning, sharesFrom, shares, partsAt, partsOf, lagged, returnNow, returnedAt}
-use Rattle.rules.specs.Turn.{State, bit, scheduled, demand, anyOn, called, divertible, riverPart, withLevels, afterDiversion, riverStage, storagePart, storageStage, returnStage, shortage, reasonOf, keepIf, lowestOn, lowRows, numberAt, controlling, turn}
+use Rattle.rules.specs.Turn.{State, scheduled, demand, anyOn, called, divertible, riverPart, withLevels, afterDiversion, riverStage, storagePart, storageStage, returnStage, shortage, reasonOf, keepIf, lowestOn, lowRows, numberAt, controlling, turn}
 use Rattle.rules.specs.Month.{gathered, openingLevels, opening, turns, afterTurns, consumedBy, returnedBy, returnsAt, areaFrom, areaAt, evaporation, evaporations, evaporated, nextMonth, month, reasonNumber, isShort, shortCount}
 use Rattle.rules.specs.Tally.{listsFit, overLimit, overAnswer, judged, refusal, freshCarried, freshStart, begun, stillDue, pendingFrom, pending, arriving, nextRun, accept, afterJudged, afterCall, afterCalls, answerJudged, answerOf, answers}
 use Rattle.rules.specs.Water.{totalRunoff, totalOutflow, totalConsumption, totalEvaporation, inTransit, startingStorage, startingDues}

@@ -10,12 +10,13 @@ use Rattle.general.proofs.Lists.{getD-zeros, all-at-place}
 use Rattle.general.proofs.Sums.{sum-map, sumTo-zero₂}
 use Rattle.rules.specs.Basin.{Reservoir, storage, Basin, noReservoir, rows, reservoirAt}
 use Rattle.rules.specs.Month.{returnsAt, MonthRun, month}
-use Rattle.rules.specs.Tally.{Call, Answer, refusal, Start, Tally, freshCarried, freshStart, begun, pending, arriving, nextRun, accept, standing, afterJudged, afterCall, afterCalls}
-use Rattle.rules.specs.Accepted.{GoodReservoir, Accepted}
+use Rattle.rules.specs.Tally.{Call, refusal, Start, Tally, freshCarried, freshStart, begun, pending, arriving, nextRun, accept, standing, afterJudged, afterCall, afterCalls}
+use Rattle.rules.specs.Answers.{Answer}
+use Rattle.rules.specs.Accepted.{GoodReservoir, Accepted, mostAmount}
 use Rattle.rules.specs.Water.{startingStorage, startingDues}
 use Rattle.rules.specs.Theorems.{mostDue, Possible, FreshFacts}
 use Rattle.rules.proofs.Pending.{pending-on, pending-ends, pending-begins}
-use Rattle.rules.proofs.Bounds.{mostAmount, month-returns-le, CarriedCapped, month-capped, month-in-year, month-count}
+use Rattle.rules.proofs.Bounds.{month-returns-le, CarriedCapped, month-capped, month-in-year, month-count}
 
 pub capped-of : (b : Basin) (s : Start) → Possible b s → CarriedCapped b (s .carried)
 capped-of b s p = record { storages-most = p .storages-most; taken-most = p .taken-most; taken-count = p .taken-count; marks-count = p .marks-count }

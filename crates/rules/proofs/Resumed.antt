@@ -8,7 +8,8 @@ use native.Mathlib.Decide.{decLt}
 use Rattle.general.proofs.Tables.{tab-same}
 use Rattle.rules.specs.Basin.{Basin, rows}
 use Rattle.rules.specs.Month.{returnsAt, MonthRun, month}
-use Rattle.rules.specs.Tally.{Call, Answer, refusal, Tally, begun, pending, arriving, nextRun, accept, standing, afterJudged, afterCall, afterCalls}
+use Rattle.rules.specs.Tally.{Call, refusal, Tally, begun, pending, arriving, nextRun, accept, standing, afterJudged, afterCall, afterCalls}
+use Rattle.rules.specs.Answers.{Answer}
 use Rattle.rules.specs.Theorems.{SameStanding}
 use Rattle.rules.proofs.Pending.{pending-on, pending-ends, pending-begins}
 

@@ -17,7 +17,8 @@ use Rattle.rules.specs.Basin.{Basin, rows}
 use Rattle.rules.specs.Path.{lastRow}
 use Rattle.rules.specs.River.{flowAt}
 use Rattle.rules.specs.Month.{consumedBy, MonthRun, month}
-use Rattle.rules.specs.Tally.{Call, Answer, listsFit, judged, refusal, Start, Tally, begun, arriving, nextRun, accept, afterJudged, afterCall, afterCalls}
+use Rattle.rules.specs.Tally.{Call, listsFit, judged, refusal, Start, Tally, begun, arriving, nextRun, accept, afterJudged, afterCall, afterCalls}
+use Rattle.rules.specs.Answers.{Answer}
 use Rattle.rules.specs.Water.{totalRunoff, totalOutflow, totalConsumption, totalEvaporation, inTransit, startingStorage, startingDues, storedIn, drawnFrom, totalStored, totalDrawn, totalLost, storageNow, allStorageNow, MonthSound, WaterKept}
 use Rattle.rules.specs.Accepted.{Accepted}
 use Rattle.rules.proofs.Stages.{outflow}

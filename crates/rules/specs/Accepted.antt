@@ -13,6 +13,10 @@ use Rattle.rules.specs.Basin.{Survey, Reservoir, Point, Kind, direct, pr
 use Rattle.rules.specs.Path.{rowBelow, path}
 use Rattle.rules.specs.Returns.{percents}
 
+-- the most that a right may ask in a month
+abbrev pub mostAmount : ℕ
+mostAmount = 1_000_000_000
+
 -- Each row but the last has a row below.
 pub record Connected (b : Basin) : Type 0 where
   pub some-row : 0 < rows b
@@ -57,7 +61,7 @@ pub record GoodRight (b : Basin) (r : Right) : Type 0 where
   pub row-in : r .row < rows b
   pub reservoir-ok : ReservoirOk (r .kind) b r
   pub returns-ok : ReturnsOk (r .kind) b r
-  pub amounts-most : (m : ℕ) → getD (r .amounts) m 0 ≤ 1_000_000_000
+  pub amounts-most : (m : ℕ) → getD (r .amounts) m 0 ≤ mostAmount
   pub limit-most : r .limit ≤ 2_000_000_000
   pub efficiency-most : r .efficiency ≤ 100
 

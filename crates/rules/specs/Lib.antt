@@ -1,3 +1,4 @@
+pub mod Answers
 pub mod Basin
 pub mod Path
 pub mod River

@@ -55,6 +55,13 @@ afterTurns (t ∷ ts) s = afterTurns ts (t .after-returns)
 abbrev pub grantsOf : List Turn → List Grant
 grantsOf ts = map (λ (t : Turn). t .grant) ts
 
+-- the grant of right i, and what stands past the last
+abbrev pub noGrant : Grant
+noGrant = record { fromRiver = 0; fromStorage = 0; reason = met; stations = [] }
+
+abbrev pub grantAt : List Turn → ℕ → Grant
+grantAt ts i = getD (grantsOf ts) i noGrant
+
 -- of a turn: its consumption, and what of it returns at row w, s months after
 unfoldable pub consumedBy : Turn → ℕ
 consumedBy t = consumption ((t .right) .kind) (t .right) (granted (t .grant))

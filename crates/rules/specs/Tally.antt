@@ -4,12 +4,15 @@
 use mathlib.Core.Bool.{Bool, true, false}
 use mathlib.Core.List.{List, [], _∷_, _++_, map}
 use mathlib.Core.Option.{Option, none, some}
-use Prim.Native.Nat.{ℕ, suc, _+_, _*_}
+use Prim.Native.Nat.{ℕ, suc, _+_}
 use lib.Dec.{leb, ltb, eqb}
 use lib.ListN.{length, getD, replicate}
 use Rattle.general.specs.Sums.{sumTo, only}
 use Rattle.general.specs.Tables.{tab}
 use Rattle.general.specs.Tests.{_and_, firstAt}
+use Rattle.places.specs.Report.{reportEnd}
+use Rattle.rules.specs.declared.Verdict.the-variants.{Lists, Runoff}
+use Rattle.rules.specs.Answers.{Answer, told}
 use Rattle.rules.specs.Basin.{Reservoir, Basin, rows}
 use Rattle.rules.specs.Month.{Carried, returnsAt, MonthRun, month, shortCount}
 
@@ -17,32 +20,31 @@ pub record Call : Type 0 where
   pub runoff : List ℕ
   pub report : ℕ
 
--- of a refused call the number of the cause and its place (01, "Numbers for what is turned down"); of an accepted month 0 and how many rights are short
-pub record Answer : Type 0 where
-  pub number : ℕ
-  pub place : ℕ
-
 -- ---- which calls the rules refuse
 
--- the least room that a report needs: four numbers a right, two a row, one a reservoir
+-- the least room that a report needs
 abbrev pub reportLength : Basin → ℕ
-reportLength b = 4 * length (b .rights) + 2 * rows b + length (b .reservoirs)
+reportLength b = reportEnd (length (b .rights)) (rows b) (length (b .reservoirs))
 
 -- whether the lists fit the basin; if not, the call is refused by number 6
 unfoldable pub listsFit : Basin → Call → Bool
 listsFit b c = eqb (length (c .runoff)) (rows b) and leb (reportLength b) (c .report)
 
--- the first row with more runoff than a reach may have; it is the place of refusal 8
+-- the most that may run off at a row in a month
+abbrev pub mostRunoff : ℕ
+mostRunoff = 1_000_000_000
+
+-- the first row with more; it is the place of refusal 8
 unfoldable pub overLimit : List ℕ → Option ℕ
-overLimit runoff = firstAt (length runoff) 0 (λ i. ltb 1_000_000_000 (getD runoff i 0))
+overLimit runoff = firstAt (length runoff) 0 (λ i. ltb mostRunoff (getD runoff i 0))
 
 unfoldable pub overAnswer : Option ℕ → Option Answer
 overAnswer none = none
-overAnswer (some i) = some (record { number = 8; place = i })
+overAnswer (some i) = some (told (Runoff i))
 
 unfoldable pub judged : Bool → List ℕ → Option Answer
 judged true runoff = overAnswer (overLimit runoff)
-judged false runoff = some (record { number = 6; place = 0 })
+judged false runoff = some (told Lists)
 
 -- The answer where the call is refused, none where it is accepted. Lists that do not fit come before runoff over its limit.
 unfoldable pub refusal : Basin → Call → Option Answer

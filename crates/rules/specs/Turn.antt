@@ -1,11 +1,12 @@
 -- The turn of one right in a month (01, "The board and one month", step 3), in three stages: its river part, its part from storage, its returns.
 use mathlib.Core.Bool.{Bool, true, false, not, cond, _&&_, _||_}
 use mathlib.Core.List.{List, [], _∷_, map}
-use Prim.Native.Nat.{ℕ, _+_, _-_, _/_, _%_, _^_, min}
+use Prim.Native.Nat.{ℕ, _+_, _-_, min}
 use lib.Dec.{ltb, eqb}
 use lib.ListN.{getD, set}
 use lib.Signed.{leZ}
 use Rattle.general.specs.Sums.{only}
+use Rattle.general.specs.Tests.{bit}
 use Rattle.rules.specs.Basin.{Station, Kind, direct, project, instream, storage, Right, Basin, stationAt, reservoirOf, patternOf}
 use Rattle.rules.specs.Path.{path, untilRow}
 use Rattle.rules.specs.River.{Level, availableAt, diverted, reserved, released, along, lowest, lesser}
@@ -30,9 +31,6 @@ abbrev pub markOf : Right → State → Bool
 markOf r s = getD (s .marks) (r .reservoir) false
 
 -- ---- the demand, which 01 calls ask
-
-unfoldable pub bit : ℕ → ℕ → Bool
-bit w m = eqb (w / 2 ^ m % 2) 1
 
 -- what the diversion schedule has for month m; nothing in a month that the right does not use
 unfoldable pub scheduled : ℕ → Right → ℕ

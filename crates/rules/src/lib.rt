@@ -1,1 +1,15 @@
-// The rules of document 01 over a decoded basin, as definitions and theorems: see specs/ and proofs/. There is no code to run here.
+// The rules of the river as definitions, with the theorems about them. Of code there is only the list of verdicts, which definitions and calls share.
+
+// What a call says of all that it was lent: accepted, or the cause of a refusal with the first at fault. A file is turned down by its layout
+// or by one of its records; a call beside by the lengths of its lists, by an impossible board, or by runoff over its limit at a row.
+pub enum Verdict {
+    Accepted,
+    Layout,
+    Station(usize),
+    Reservoir(usize),
+    Pattern(usize),
+    Right(usize),
+    Lists,
+    Board,
+    Runoff(usize),
+}

@@ -6,34 +6,37 @@ use mathlib.Core.Path.{_≡_, refl, sym, ap, _∙_}
 use Prim.Native.Nat.{ℕ, _+_, _-_, _≤_, _<_, min}
 use native.Mathlib.Nat.{le-trans}
 use native.Mathlib.Omega.{arith}
-use lib.Dec.{eqb}
 use lib.ListN.{length, getD}
 use lib.IntN.{ℤ, pos}
 use lib.Signed.{leZ, _≤ℤ_, leZ-yes}
 use Rattle.general.specs.Sums.{only}
-use Rattle.general.specs.Tests.{has}
+use Rattle.general.specs.Tests.{has, bit}
 use Rattle.general.proofs.Search.{has-none, has-head, has-tail, has-other}
 use Rattle.general.proofs.Signed.{le-make, eq-make, signed}
 use Rattle.general.proofs.Tables.{tab-at}
-use Rattle.general.proofs.Tests.{absurd-bool, true-of, only-le, by-eqb, eqb-other, T-of}
-use Rattle.rules.specs.Basin.{Kind, direct, project, instream, storage, Right, Basin, rows, reservoirAt, reservoirOf}
+use Rattle.general.proofs.Tests.{absurd-bool, true-of, only-le, by-eqb, T-of}
+use Rattle.places.specs.Board.{storageAt, marksAt}
+use Rattle.rules.specs.Basin as rules
+use Rattle.rules.specs.Basin.{Right, rows, reservoirAt, reservoirOf}
 use Rattle.rules.specs.Path.{path}
 use Rattle.rules.specs.River.{Level, availableAt, lower, lowest, lesser}
-use Rattle.rules.specs.Turn.{State, pathOf, storageOf, markOf, bit, scheduled, demand, anyOn, called, divertible, riverPart}
-use Rattle.records.specs.Records.{reservoirCount, rightCount, rightRecord, amountAt, kindOf, rightOf}
+use Rattle.rules.specs.Turn.{State, pathOf, storageOf, markOf, scheduled, demand, anyOn, called, divertible, riverPart}
+use Rattle.records.specs.declared.rights.Kind.{Kind}
+use Rattle.records.specs.declared.rights.Kind.the-variants.{Direct, Project, Instream, Storage}
+use Rattle.records.specs.Records.{reservoirCount, amountAt, kindOf, rightOf}
 use Rattle.river.specs.declared.Seen.{Seen}
 use Rattle.river.specs.declared.Seen.the-variants as seen
-use Rattle.records.specs.Table.{pathBy}
 use Rattle.river.specs.Arrays.{seenOn}
 use Rattle.river.proofs.Levels.{levels-at}
 use Rattle.records.proofs.Table.{by-self}
-use Rattle.returns.specs.Dues.{mostAmount}
+use Rattle.rules.specs.Accepted.{mostAmount}
 use Rattle.grants.specs.Grants.{seenBy, partOf}
-use Rattle.turns.specs.State.{storagesOf, marksOf, shortOf, stateOf, Setting}
-use Rattle.grants.specs.Stages.{amountIn, askIn, capacityIn, isStorage}
-use Rattle.turns.proofs.Facts.{downhill, path-is, path-in, reservoirs-count, rights-count, capacity-is, right-good, kind-is, row-is, reservoir-of, limit-is, row-in, row-on, storage-behind}
+use Rattle.turns.specs.State.{storagesOf, marksOf, shortOf, stateOf}
+use Rattle.grants.specs.Stages.{amountIn, askIn, capacityIn}
+use Rattle.turns.proofs.Given.{RightAt, theRecord, theKind, theRow, theReservoir, thePath, theRight, BeforeTurn, theState}
+use Rattle.turns.proofs.Facts.{downhill, path-is, path-in, reservoirs-count, rights-count, capacity-is}
+use Rattle.turns.proofs.RightFacts.{right-good, kind-is, row-is, reservoir-of, limit-is, row-in, row-on, storage-behind}
 use Rattle.grants.proofs.Looks.{seen-called, LowSeen, seen-low}
-use Rattle.grants.proofs.RightKinds.{by-kind}
 use Rattle.turns.proofs.Places.{storage-at, taken-at, mark-at}
 
 -- ---- the lowest available flow, as a natural number
@@ -70,15 +73,6 @@ lowest-nat l a x (r ∷ s ∷ p) v h q o e = by-eqb q r (λ _. lower (availableA
         least true m n = m
         least false m n = n
 
-abbrev pub isInstream : Kind → Bool
-isInstream direct = false
-isInstream project = false
-isInstream instream = true
-isInstream storage = false
-
-pub instream-test : (k : ℕ) → isInstream (kindOf k) ≡ eqb k 3
-instream-test k = by-kind k (λ x. isInstream x ≡ eqb k 3) (λ e. rw e) (λ e. rw e) (λ e. rw e) (λ x y z. sym (eqb-other k 3 z))
-
 -- marks read off a table of the rows
 any-same : (n : ℕ) (sh : List Bool) (p : List ℕ) → ((k : ℕ) → has k p ≡ true → k < n) → anyOn (shortOf n sh) p ≡ anyOn sh p
 unfolding anyOn shortOf
@@ -89,127 +83,121 @@ pub short-at : (n : ℕ) (sh : List Bool) (q : ℕ) → q < n → getD (shortOf 
 unfolding shortOf
 short-at n sh q h = tab-at (λ w. getD sh w false) n q false h
 
-module _ (b : Basin) (st t rs : List ℕ) (pa : List (List ℕ)) (ri : List ℕ) (w : Setting b st t rs pa ri) (i : ℕ) (hi : i < rightCount ri) where
-  abbrev r : Right
-  r = rightOf ri i
-
-  abbrev kb : ℕ
-  kb = (rightRecord ri i) .kind
-
-  abbrev row : ℕ
-  row = (rightRecord ri i) .row
-
-  abbrev p : List ℕ
-  p = pathBy t row
-
-  pub path-of : pathOf b r ≡ p
-  path-of = ap (path (b .stations)) (row-is b st t rs pa ri w i hi) ∙ sym (path-is b st t rs pa ri w row (row-in b st t rs pa ri w i hi))
+module _ (R : RightAt) where
+  pub path-of : pathOf (R .basin) (theRight R) ≡ thePath R
+  path-of = ap (path (R .basin .stations)) (row-is R) ∙ sym (path-is (R .setting) (theRow R) (row-in R))
 
   -- ---- the demand
 
-  amount-is : (m : ℕ) → m < 12 → scheduled m r ≡ amountIn ri i m
+  amount-is : (m : ℕ) → m < 12 → scheduled m (theRight R) ≡ amountIn (R .rights) (R .place) m
   unfolding scheduled amountIn rightOf
-  amount-is m h = ap (λ (x : ℕ). only (bit ((rightRecord ri i) .months) m) x) (tab-at (amountAt ri i) 12 m 0 h)
+  amount-is m h = ap (λ (x : ℕ). only (bit ((theRecord R) .months) m) x) (tab-at (amountAt (R .rights) (R .place)) 12 m 0 h)
 
-  module _ (m : ℕ) (hm : m < 12) (f a : List ℕ) (sh : List Bool) (bd : List ℕ) where
-    abbrev s : State
-    s = stateOf b f a sh bd
-
-    state-taken : getD (s .taken) i 0 ≡ getD bd (10 + i) 0
+  module _ (f a : List ℕ) (sh : List Bool) (bd : List ℕ) where
+    state-taken : getD ((stateOf (R .basin) f a sh bd) .taken) (R .place) 0 ≡ getD bd (10 + R .place) 0
     unfolding stateOf
-    state-taken = taken-at (length (b .rights)) bd i (omega (arith, rights-count b st t rs pa ri w))
+    state-taken = taken-at (length (R .basin .rights)) bd (R .place) (omega (arith, R .in-list, rights-count (R .setting)))
 
-    module _ (v : ℕ) (e : v ≡ (rightRecord ri i) .reservoir) (there : v < reservoirCount rs) where
-      pub state-storage : storageOf r s ≡ getD bd (1 + v) 0
+    module _ (v : ℕ) (e : v ≡ theReservoir R) (there : v < reservoirCount (R .reservoirs)) where
+      pub state-storage : storageOf (theRight R) (stateOf (R .basin) f a sh bd) ≡ storageAt bd v
       unfolding stateOf
-      state-storage = ap (λ (k : ℕ). getD (storagesOf (length (b .reservoirs)) bd) k 0) (reservoir-of b st t rs pa ri w i hi ∙ sym e) ∙ storage-at (length (b .reservoirs)) bd v (omega (arith, reservoirs-count b st t rs pa ri w))
+      state-storage = ap (λ (k : ℕ). getD (storagesOf (length (R .basin .reservoirs)) bd) k 0) (reservoir-of R ∙ sym e) ∙ storage-at (length (R .basin .reservoirs)) bd v (omega (arith, there, reservoirs-count (R .setting)))
 
-      pub state-mark : markOf r s ≡ bit (getD bd 9 0) v
+      pub state-mark : markOf (theRight R) (stateOf (R .basin) f a sh bd) ≡ bit (marksAt bd) v
       unfolding stateOf
-      state-mark = ap (λ (k : ℕ). getD (marksOf (length (b .reservoirs)) bd) k false) (reservoir-of b st t rs pa ri w i hi ∙ sym e) ∙ mark-at (length (b .reservoirs)) bd v (omega (arith, reservoirs-count b st t rs pa ri w))
+      state-mark = ap (λ (k : ℕ). getD (marksOf (length (R .basin .reservoirs)) bd) k false) (reservoir-of R ∙ sym e) ∙ mark-at (length (R .basin .reservoirs)) bd v (omega (arith, there, reservoirs-count (R .setting)))
 
-      pub state-capacity : (reservoirOf b r) .capacity ≡ capacityIn rs v
-      state-capacity = ap (λ (k : ℕ). (reservoirAt b k) .capacity) (reservoir-of b st t rs pa ri w i hi ∙ sym e) ∙ capacity-is b st t rs pa ri w v there
+      pub state-capacity : (reservoirOf (R .basin) (theRight R)) .capacity ≡ capacityIn (R .reservoirs) v
+      state-capacity = ap (λ (k : ℕ). (reservoirAt (R .basin) k) .capacity) (reservoir-of R ∙ sym e) ∙ capacity-is (R .setting) v there
 
-    ask-by : (k : Kind) → (k ≡ storage → (rightRecord ri i) .reservoir < reservoirCount rs) → askIn k rs ri i m bd ≡ demand k b m i r s
-    unfolding askIn demand
-    ask-by direct o = sym (amount-is m hm)
-    ask-by project o = sym (amount-is m hm)
-    ask-by instream o = sym (amount-is m hm)
-    ask-by storage o =
-        let v : ℕ = (rightRecord ri i) .reservoir in
-        sym (rw (state-mark v refl (o refl), amount-is m hm, limit-is b st t rs pa ri w i hi, state-taken, state-capacity v refl (o refl), state-storage v refl (o refl)))
+module _ (T : BeforeTurn) where
+  abbrev R : RightAt
+  R = T .right
 
-    pub ask-is : askIn (kindOf kb) rs ri i m bd ≡ demand (r .kind) b m i r s
-    ask-is = ap (λ (k : Kind). askIn k rs ri i m bd) (sym (kind-is b st t rs pa ri w i hi)) ∙ ask-by (r .kind) (λ e. storage-behind b st t rs pa ri w i hi e)
+  abbrev r : Right
+  r = theRight R
 
-    -- a demand is at most the amount, and that at most 01's limit
-    ask-le : (k : Kind) → askIn k rs ri i m bd ≤ amountIn ri i m
-    unfolding askIn
-    ask-le direct = omega arith
-    ask-le project = omega arith
-    ask-le instream = omega arith
-    ask-le storage =
-        let v : ℕ = (rightRecord ri i) .reservoir in
-        let x : ℕ = min (amountIn ri i m) (min ((rightRecord ri i) .limit - getD bd (10 + i) 0) (capacityIn rs v - getD bd (1 + v) 0)) in
-        let h : only (not (bit (getD bd 9 0) v)) x ≤ x = only-le (not (bit (getD bd 9 0) v)) x in
-        le-trans h (omega arith)
+  abbrev p : List ℕ
+  p = thePath R
 
-    amount-le : amountIn ri i m ≤ mostAmount
-    unfolding scheduled
-    amount-le = omega (arith, amount-is m hm, only-le (bit (r .months) m) (getD (r .amounts) m 0), (right-good b st t rs pa ri w i hi) .amounts-most m)
+  abbrev s : State
+  s = theState T
 
-    pub ask-most : (k : Kind) → askIn k rs ri i m bd ≤ mostAmount
-    ask-most k = le-trans (ask-le k) amount-le
+  ask-by : (k : Kind) → (k ≡ Storage → theReservoir R < reservoirCount (R .reservoirs)) → askIn k (R .reservoirs) (R .rights) (R .place) (T .month) (T .board) ≡ demand (kindOf k) (R .basin) (T .month) (R .place) r s
+  unfolding askIn demand
+  ask-by Direct o = sym (amount-is R (T .month) (T .in-year))
+  ask-by Project o = sym (amount-is R (T .month) (T .in-year))
+  ask-by Instream o = sym (amount-is R (T .month) (T .in-year))
+  ask-by Storage o =
+      let v : ℕ = theReservoir R in
+      sym (rw (state-mark R (T .flow) (T .available) (T .short) (T .board) v refl (o refl), amount-is R (T .month) (T .in-year), limit-is R, state-taken R (T .flow) (T .available) (T .short) (T .board), state-capacity R (T .flow) (T .available) (T .short) (T .board) v refl (o refl), state-storage R (T .flow) (T .available) (T .short) (T .board) v refl (o refl)))
 
-    -- under a filled mark a storage right asks for nothing
-    pub ask-marked : (k : Kind) → isStorage k ≡ true → bit (getD bd 9 0) ((rightRecord ri i) .reservoir) ≡ true → askIn k rs ri i m bd ≡ 0
-    unfolding askIn
-    ask-marked direct z e = absurd-bool z refl
-    ask-marked project z e = absurd-bool z refl
-    ask-marked instream z e = absurd-bool z refl
-    ask-marked storage z e = rw e
+  pub ask-is : askIn (theKind R) (R .reservoirs) (R .rights) (R .place) (T .month) (T .board) ≡ demand (r .kind) (R .basin) (T .month) (R .place) r s
+  ask-is = ask-by (theKind R) (storage-behind R) ∙ ap (λ (k : rules.Kind). demand k (R .basin) (T .month) (R .place) r s) (sym (kind-is R))
 
-    -- ---- the river part
+  -- a demand is at most the amount, and that at most 01's limit
+  ask-le : (k : Kind) → askIn k (R .reservoirs) (R .rights) (R .place) (T .month) (T .board) ≤ amountIn (R .rights) (R .place) (T .month)
+  unfolding askIn
+  ask-le Direct = omega arith
+  ask-le Project = omega arith
+  ask-le Instream = omega arith
+  ask-le Storage =
+      let v : ℕ = theReservoir R in
+      let x : ℕ = min (amountIn (R .rights) (R .place) (T .month)) (min ((theRecord R) .limit - getD (T .board) (10 + R .place) 0) (capacityIn (R .reservoirs) v - storageAt (T .board) v)) in
+      let h : only (not (bit (marksAt (T .board)) v)) x ≤ x = only-le (not (bit (marksAt (T .board)) v)) x in
+      le-trans h (omega arith)
 
-    on-path : (k : ℕ) → has k p ≡ true → k < rows b
-    on-path = path-in b st t rs pa ri w row (row-in b st t rs pa ri w i hi)
+  amount-le : amountIn (R .rights) (R .place) (T .month) ≤ mostAmount
+  unfolding scheduled
+  amount-le = omega (arith, amount-is R (T .month) (T .in-year), only-le (bit (r .months) (T .month)) (getD (r .amounts) (T .month) 0), (right-good R) .amounts-most (T .month))
 
-    pub called-is : called b r s ≡ anyOn sh p
-    unfolding called stateOf
-    called-is = rw path-of (any-same (rows b) sh p on-path)
+  pub ask-most : (k : Kind) → askIn k (R .reservoirs) (R .rights) (R .place) (T .month) (T .board) ≤ mostAmount
+  ask-most k = le-trans (ask-le k) amount-le
 
-    pub available-is : (k : ℕ) → k < rows b → availableAt (s .levels) k ≡ pos (getD a k 0)
-    unfolding stateOf
-    available-is k h = ap (λ (x : Level). x .available) (levels-at (rows b) f a k h)
+  -- under a filled mark a storage right asks for nothing
+  pub ask-marked : theKind R ≡ Storage → bit (marksAt (T .board)) (theReservoir R) ≡ true → askIn (theKind R) (R .reservoirs) (R .rights) (R .place) (T .month) (T .board) ≡ 0
+  unfolding askIn
+  ask-marked z e = ap (λ (k : Kind). askIn k (R .reservoirs) (R .rights) (R .place) (T .month) (T .board)) z ∙ rw e
 
-    pub lowest-is : (q : ℕ) → seenOn sh a row p ≡ seen.Low q → (lowest (s .levels) p ≡ pos (getD a q 0)) × (has q p ≡ true) × (anyOn sh p ≡ false) × ((k : ℕ) → has k p ≡ true → getD a q 0 ≤ getD a k 0)
-    lowest-is q e =
-        let o : LowSeen sh a row p q = seen-low sh a row p q e in
-        let on : has q p ≡ true = place (o .on) in
-        (lowest-nat (s .levels) a (getD a q 0) p (λ k h. available-is k (on-path k h)) (o .least) q on refl, on, o .open-path, o .least)
-      where
-        place : (q ≡ row) ⊎ (has q p ≡ true) → has q p ≡ true
-        place (inl z) = rw z (by-self t (downhill b st t rs pa ri w) row (row-on b st t rs pa ri w i hi))
-        place (inr h) = h
+  -- ---- the river part
 
-    -- what a right that looks down its path may divert
-    divert-is : (x : ℕ) (y : Seen) → seenOn sh a row p ≡ y → partOf a x y ≡ divertible b r s x
-    unfolding partOf divertible lesser
-    divert-is x (seen.Called q) e = sym (rw (called-is, seen-called sh a row p q e .2))
-    divert-is x (seen.Low q) e = let o = lowest-is q e in sym (rw (called-is, o .2, path-of, o .0))
+  on-path : (k : ℕ) → has k p ≡ true → k < rows (R .basin)
+  on-path = path-in (R .setting) (theRow R) (row-in R)
 
-    instream-is : (x : ℕ) → partOf a x (seen.Low row) ≡ lesser x (availableAt (s .levels) (r .row))
-    unfolding partOf lesser
-    instream-is x = sym (rw (row-is b st t rs pa ri w i hi, available-is row (row-in b st t rs pa ri w i hi)))
+  pub called-is : called (R .basin) r s ≡ anyOn (T .short) p
+  unfolding called stateOf
+  called-is = rw (path-of R) (any-same (rows (R .basin)) (T .short) p on-path)
 
-    part-by : (k : Kind) (x : ℕ) → partOf a x (cond (isInstream k) (seen.Low row) (seenOn sh a row p)) ≡ riverPart k b r s x
-    unfolding riverPart
-    part-by direct x = divert-is x (seenOn sh a row p) refl
-    part-by project x = divert-is x (seenOn sh a row p) refl
-    part-by instream x = instream-is x
-    part-by storage x = divert-is x (seenOn sh a row p) refl
+  pub available-is : (k : ℕ) → k < rows (R .basin) → availableAt (s .levels) k ≡ pos (getD (T .available) k 0)
+  unfolding stateOf
+  available-is k h = ap (λ (x : Level). x .available) (levels-at (rows (R .basin)) (T .flow) (T .available) k h)
 
-    pub part-is : (x : ℕ) → partOf a x (seenBy t a sh kb row) ≡ riverPart (r .kind) b r s x
-    part-is x = ap (λ (c : Bool). partOf a x (cond c (seen.Low row) (seenOn sh a row p))) (sym (instream-test kb))
-        ∙ part-by (kindOf kb) x ∙ ap (λ (k : Kind). riverPart k b r s x) (sym (kind-is b st t rs pa ri w i hi))
+  pub lowest-is : (q : ℕ) → seenOn (T .short) (T .available) (theRow R) p ≡ seen.Low q → (lowest (s .levels) p ≡ pos (getD (T .available) q 0)) × (has q p ≡ true) × (anyOn (T .short) p ≡ false) × ((k : ℕ) → has k p ≡ true → getD (T .available) q 0 ≤ getD (T .available) k 0)
+  lowest-is q e =
+      let o : LowSeen (T .short) (T .available) (theRow R) p q = seen-low (T .short) (T .available) (theRow R) p q e in
+      let on : has q p ≡ true = place (o .on) in
+      (lowest-nat (s .levels) (T .available) (getD (T .available) q 0) p (λ k h. available-is k (on-path k h)) (o .least) q on refl, on, o .open-path, o .least)
+    where
+      place : (q ≡ theRow R) ⊎ (has q p ≡ true) → has q p ≡ true
+      place (inl z) = rw z (by-self (R .table) (downhill (R .setting)) (theRow R) (row-on R))
+      place (inr h) = h
+
+  -- what a right that looks down its path may divert
+  divert-is : (x : ℕ) (y : Seen) → seenOn (T .short) (T .available) (theRow R) p ≡ y → partOf (T .available) x y ≡ divertible (R .basin) r s x
+  unfolding partOf divertible lesser
+  divert-is x (seen.Called q) e = sym (rw (called-is, seen-called (T .short) (T .available) (theRow R) p q e .2))
+  divert-is x (seen.Low q) e = let o = lowest-is q e in sym (rw (called-is, o .2, (path-of R), o .0))
+
+  instream-is : (x : ℕ) → partOf (T .available) x (seen.Low (theRow R)) ≡ lesser x (availableAt (s .levels) (r .row))
+  unfolding partOf lesser
+  instream-is x = sym (rw (row-is R, available-is (theRow R) (row-in R)))
+
+  part-by : (k : Kind) (x : ℕ) → partOf (T .available) x (seenBy k (R .table) (T .available) (T .short) (theRow R)) ≡ riverPart (kindOf k) (R .basin) r s x
+  unfolding riverPart
+  part-by Direct x = divert-is x (seenOn (T .short) (T .available) (theRow R) p) refl
+  part-by Project x = divert-is x (seenOn (T .short) (T .available) (theRow R) p) refl
+  part-by Instream x = instream-is x
+  part-by Storage x = divert-is x (seenOn (T .short) (T .available) (theRow R) p) refl
+
+  pub part-is : (x : ℕ) → partOf (T .available) x (seenBy (theKind R) (R .table) (T .available) (T .short) (theRow R)) ≡ riverPart (r .kind) (R .basin) r s x
+  part-is x = part-by (theKind R) x ∙ ap (λ (k : rules.Kind). riverPart k (R .basin) r s x) (sym (kind-is R))

@@ -9,10 +9,11 @@ use native.Mathlib.Omega.{arith}
 use lib.Dec.{ltb, eqb}
 use lib.ListN.{length, getD, set, length-set}
 use lib.Seq.{getD-set-same, getD-set-other, ext-getD}
+use Rattle.places.specs.Board.{storagePlace, marksPlace, takenPlace, duesFrom, boardLength, storageAt, marksAt, takenAt}
 use Rattle.general.specs.Tables.{tab}
 use Rattle.general.proofs.Tables.{tab-length, tab-at, tab-same}
 use Rattle.general.proofs.Tests.{absurd-bool, by-eqb}
-use Rattle.rules.specs.Turn.{bit}
+use Rattle.general.specs.Tests.{bit}
 use Rattle.turns.specs.State.{storagesOf, marksOf, takenOf, shortOf}
 use Rattle.grants.specs.Stages.{markedBoard, poured}
 use Rattle.grants.proofs.RightKinds.{shifted, nine}
@@ -32,43 +33,43 @@ unfolding shortOf
 shorts-set n sh w h l = tab-set n (λ k. getD sh k false) (λ k. getD (set sh w true) k false) w true false h (getD-set-same sh w true false l) (λ k m z. getD-set-other sh w k true false z)
 
 module _ (n : ℕ) (bd : List ℕ) where
-  pub storage-at : (v : ℕ) → v < n → getD (storagesOf n bd) v 0 ≡ getD bd (1 + v) 0
+  pub storage-at : (v : ℕ) → v < n → getD (storagesOf n bd) v 0 ≡ storageAt bd v
   unfolding storagesOf
-  storage-at v h = tab-at (λ k. getD bd (1 + k) 0) n v 0 h
+  storage-at v h = tab-at (λ k. storageAt bd k) n v 0 h
 
-  pub taken-at : (i : ℕ) → i < n → getD (takenOf n bd) i 0 ≡ getD bd (10 + i) 0
+  pub taken-at : (i : ℕ) → i < n → getD (takenOf n bd) i 0 ≡ takenAt bd i
   unfolding takenOf
-  taken-at i h = tab-at (λ k. getD bd (10 + k) 0) n i 0 h
+  taken-at i h = tab-at (λ k. takenAt bd k) n i 0 h
 
-  pub mark-at : (v : ℕ) → v < n → getD (marksOf n bd) v false ≡ bit (getD bd 9 0) v
+  pub mark-at : (v : ℕ) → v < n → getD (marksOf n bd) v false ≡ bit (marksAt bd) v
   unfolding marksOf
-  mark-at v h = tab-at (bit (getD bd 9 0)) n v false h
+  mark-at v h = tab-at (bit (marksAt bd)) n v false h
 
-  pub storages-set : (v x : ℕ) → v < n → 1 + v < length bd → storagesOf n (set bd (1 + v) x) ≡ set (storagesOf n bd) v x
+  pub storages-set : (v x : ℕ) → v < n → 1 + v < length bd → storagesOf n (set bd (storagePlace v) x) ≡ set (storagesOf n bd) v x
   unfolding storagesOf
-  storages-set v x h l = tab-set n (λ k. getD bd (1 + k) 0) (λ k. getD (set bd (1 + v) x) (1 + k) 0) v x 0 h (getD-set-same bd (1 + v) x 0 l) (λ k m z. getD-set-other bd (1 + v) (1 + k) x 0 (λ e. z (omega arith)))
+  storages-set v x h l = tab-set n (λ k. storageAt bd k) (λ k. storageAt (set bd (storagePlace v) x) k) v x 0 h (getD-set-same bd (storagePlace v) x 0 l) (λ k m z. getD-set-other bd (storagePlace v) (storagePlace k) x 0 (λ e. z (omega arith)))
 
-  pub taken-set : (i x : ℕ) → i < n → 10 + i < length bd → takenOf n (set bd (10 + i) x) ≡ set (takenOf n bd) i x
+  pub taken-set : (i x : ℕ) → i < n → takenPlace i < length bd → takenOf n (set bd (takenPlace i) x) ≡ set (takenOf n bd) i x
   unfolding takenOf
-  taken-set i x h l = tab-set n (λ k. getD bd (10 + k) 0) (λ k. getD (set bd (10 + i) x) (10 + k) 0) i x 0 h (getD-set-same bd (10 + i) x 0 l) (λ k m z. getD-set-other bd (10 + i) (10 + k) x 0 (λ e. z (omega arith)))
+  taken-set i x h l = tab-set n (λ k. takenAt bd k) (λ k. takenAt (set bd (takenPlace i) x) k) i x 0 h (getD-set-same bd (takenPlace i) x 0 l) (λ k m z. getD-set-other bd (takenPlace i) (takenPlace k) x 0 (λ e. z (omega arith)))
 
   -- stores elsewhere
   pub storages-off : (j x : ℕ) → n ≤ 8 → 9 ≤ j → storagesOf n (set bd j x) ≡ storagesOf n bd
   unfolding storagesOf
-  storages-off j x h l = tab-same n _ _ (λ k i. getD-set-other bd j (1 + k) x 0 (λ e. omega arith))
+  storages-off j x h l = tab-same n _ _ (λ k i. getD-set-other bd j (storagePlace k) x 0 (λ e. omega arith))
 
   pub taken-off : (j x : ℕ) → j < 10 → takenOf n (set bd j x) ≡ takenOf n bd
   unfolding takenOf
-  taken-off j x l = tab-same n _ _ (λ k i. getD-set-other bd j (10 + k) x 0 (λ e. omega arith))
+  taken-off j x l = tab-same n _ _ (λ k i. getD-set-other bd j (takenPlace k) x 0 (λ e. omega arith))
 
-  pub marks-off : (j x : ℕ) → j ≢ 9 → marksOf n (set bd j x) ≡ marksOf n bd
+  pub marks-off : (j x : ℕ) → j ≢ marksPlace → marksOf n (set bd j x) ≡ marksOf n bd
   unfolding marksOf
   marks-off j x l = ap (λ (w : ℕ). tab n (bit w)) (getD-set-other bd j 9 x 0 (λ e. l (sym e)))
 
   -- what is the same at every place is the same
-  pub places-same : (bd′ : List ℕ) → n ≤ 256 → ((j : ℕ) → j < 266 → getD bd′ j 0 ≡ getD bd j 0) → (storagesOf n bd′ ≡ storagesOf n bd) × (marksOf n bd′ ≡ marksOf n bd) × (takenOf n bd′ ≡ takenOf n bd)
+  pub places-same : (bd′ : List ℕ) → n ≤ 256 → ((j : ℕ) → j < duesFrom → getD bd′ j 0 ≡ getD bd j 0) → (storagesOf n bd′ ≡ storagesOf n bd) × (marksOf n bd′ ≡ marksOf n bd) × (takenOf n bd′ ≡ takenOf n bd)
   unfolding storagesOf marksOf takenOf
-  places-same bd′ h e = (tab-same n _ _ (λ k l. e (1 + k) (omega arith)), ap (λ (w : ℕ). tab n (bit w)) (e 9 (omega arith)), tab-same n _ _ (λ k l. e (10 + k) (omega arith)))
+  places-same bd′ h e = (tab-same n _ _ (λ k l. e (storagePlace k) (omega arith)), ap (λ (w : ℕ). tab n (bit w)) (e 9 (omega arith)), tab-same n _ _ (λ k l. e (takenPlace k) (omega arith)))
 
 -- ---- bits of a word
 
@@ -105,42 +106,42 @@ bit-other (suc v) (suc k) w h n =
     let e : (w + 2 ^ suc v) / 2 ≡ w / 2 + 2 ^ v = rw (pow-suc 2 v) (omega arith) in
     bit-suc (w + 2 ^ suc v) k ∙ rw e (bit-other v k (w / 2) (sym (bit-suc w v) ∙ h) (λ z. n (ap suc z))) ∙ sym (bit-suc w k)
 
-marks-set : (n : ℕ) (bd : List ℕ) (v : ℕ) → v < n → 9 < length bd → bit (getD bd 9 0) v ≡ false → marksOf n (set bd 9 (getD bd 9 0 + 2 ^ v)) ≡ set (marksOf n bd) v true
+marks-set : (n : ℕ) (bd : List ℕ) (v : ℕ) → v < n → marksPlace < length bd → bit (marksAt bd) v ≡ false → marksOf n (set bd marksPlace (marksAt bd + 2 ^ v)) ≡ set (marksOf n bd) v true
 unfolding marksOf
 marks-set n bd v h l e =
-    ap (λ (w : ℕ). tab n (bit w)) (getD-set-same bd 9 (getD bd 9 0 + 2 ^ v) 0 l)
-    ∙ tab-set n (bit (getD bd 9 0)) (bit (getD bd 9 0 + 2 ^ v)) v true false h (bit-set v (getD bd 9 0) e) (λ k m z. bit-other v k (getD bd 9 0) e z)
+    ap (λ (w : ℕ). tab n (bit w)) (getD-set-same bd marksPlace (marksAt bd + 2 ^ v) 0 l)
+    ∙ tab-set n (bit (marksAt bd)) (bit (marksAt bd + 2 ^ v)) v true false h (bit-set v (marksAt bd) e) (λ k m z. bit-other v k (marksAt bd) e z)
 
 -- ---- what is poured into a reservoir
 
-module _ (nr ni : ℕ) (bd : List ℕ) (capacity v i d : ℕ) (few : nr ≤ 8) (hv : v < nr) (hi : i < ni) (most : ni ≤ 256) (size : length bd ≡ 970) (free : 0 < d → bit (getD bd 9 0) v ≡ false) where
+module _ (nr ni : ℕ) (bd : List ℕ) (capacity v i d : ℕ) (few : nr ≤ 8) (hv : v < nr) (hi : i < ni) (most : ni ≤ 256) (size : length bd ≡ boardLength) (free : 0 < d → bit (marksAt bd) v ≡ false) where
   abbrev once : List ℕ
-  once = set bd (1 + v) (getD bd (1 + v) 0 + d)
+  once = set bd (storagePlace v) (storageAt bd v + d)
 
   abbrev twice : List ℕ
-  twice = set once (10 + i) (getD bd (10 + i) 0 + d)
+  twice = set once (takenPlace i) (takenAt bd i + d)
 
-  once-size : length once ≡ 970
-  once-size = length-set bd (1 + v) (getD bd (1 + v) 0 + d) ∙ size
+  once-size : length once ≡ boardLength
+  once-size = length-set bd (storagePlace v) (storageAt bd v + d) ∙ size
 
-  twice-size : length twice ≡ 970
-  twice-size = length-set once (10 + i) (getD bd (10 + i) 0 + d) ∙ once-size
+  twice-size : length twice ≡ boardLength
+  twice-size = length-set once (takenPlace i) (takenAt bd i + d) ∙ once-size
 
-  storages-twice : storagesOf nr twice ≡ set (storagesOf nr bd) v (getD bd (1 + v) 0 + d)
-  storages-twice = storages-off nr once (10 + i) (getD bd (10 + i) 0 + d) few (omega arith) ∙ storages-set nr bd v (getD bd (1 + v) 0 + d) hv (omega arith)
+  storages-twice : storagesOf nr twice ≡ set (storagesOf nr bd) v (storageAt bd v + d)
+  storages-twice = storages-off nr once (takenPlace i) (takenAt bd i + d) few (omega arith) ∙ storages-set nr bd v (storageAt bd v + d) hv (omega arith)
 
-  taken-twice : takenOf ni twice ≡ set (takenOf ni bd) i (getD bd (10 + i) 0 + d)
-  taken-twice = taken-set ni once i (getD bd (10 + i) 0 + d) hi (omega (arith, once-size)) ∙ ap (λ (l : List ℕ). set l i (getD bd (10 + i) 0 + d)) (taken-off ni bd (1 + v) (getD bd (1 + v) 0 + d) (omega arith))
+  taken-twice : takenOf ni twice ≡ set (takenOf ni bd) i (takenAt bd i + d)
+  taken-twice = taken-set ni once i (takenAt bd i + d) hi (omega (arith, once-size)) ∙ ap (λ (l : List ℕ). set l i (takenAt bd i + d)) (taken-off ni bd (storagePlace v) (storageAt bd v + d) (omega arith))
 
   marks-twice : marksOf nr twice ≡ marksOf nr bd
-  marks-twice = marks-off nr once (10 + i) (getD bd (10 + i) 0 + d) (λ e. omega arith) ∙ marks-off nr bd (1 + v) (getD bd (1 + v) 0 + d) (λ e. omega arith)
+  marks-twice = marks-off nr once (takenPlace i) (takenAt bd i + d) (λ e. omega arith) ∙ marks-off nr bd (storagePlace v) (storageAt bd v + d) (λ e. omega arith)
 
-  pub storages-poured : (t : Bool) → storagesOf nr (markedBoard t twice v) ≡ set (storagesOf nr bd) v (getD bd (1 + v) 0 + d)
-  storages-poured true = storages-off nr twice 9 (getD twice 9 0 + 2 ^ v) few (omega arith) ∙ storages-twice
+  pub storages-poured : (t : Bool) → storagesOf nr (markedBoard t twice v) ≡ set (storagesOf nr bd) v (storageAt bd v + d)
+  storages-poured true = storages-off nr twice 9 (marksAt twice + 2 ^ v) few (omega arith) ∙ storages-twice
   storages-poured false = storages-twice
 
-  pub taken-poured : (t : Bool) → takenOf ni (markedBoard t twice v) ≡ set (takenOf ni bd) i (getD bd (10 + i) 0 + d)
-  taken-poured true = taken-off ni twice 9 (getD twice 9 0 + 2 ^ v) (omega arith) ∙ taken-twice
+  pub taken-poured : (t : Bool) → takenOf ni (markedBoard t twice v) ≡ set (takenOf ni bd) i (takenAt bd i + d)
+  taken-poured true = taken-off ni twice 9 (marksAt twice + 2 ^ v) (omega arith) ∙ taken-twice
   taken-poured false = taken-twice
 
   pub marks-poured : (t : Bool) → (t ≡ true → 0 < d) → marksOf nr (markedBoard t twice v) ≡ cond t (set (marksOf nr bd) v true) (marksOf nr bd)
@@ -151,24 +152,24 @@ module _ (nr ni : ℕ) (bd : List ℕ) (capacity v i d : ℕ) (few : nr ≤ 8) (
 
 module _ (bd : List ℕ) (capacity v i d : ℕ) (eight : v < 8) (most : i < 256) where
   pub poured-size : length (poured capacity v i d bd) ≡ length bd
-  poured-size = go (ltb 0 d && eqb (getD bd (1 + v) 0 + d) capacity)
+  poured-size = go (ltb 0 d && eqb (storageAt bd v + d) capacity)
     where
-      two : length (set (set bd (1 + v) (getD bd (1 + v) 0 + d)) (10 + i) (getD bd (10 + i) 0 + d)) ≡ length bd
-      two = length-set (set bd (1 + v) _) (10 + i) _ ∙ length-set bd (1 + v) _
+      two : length (set (set bd (storagePlace v) (storageAt bd v + d)) (takenPlace i) (takenAt bd i + d)) ≡ length bd
+      two = length-set (set bd (storagePlace v) _) (takenPlace i) _ ∙ length-set bd (storagePlace v) _
 
-      go : (t : Bool) → length (markedBoard t (set (set bd (1 + v) (getD bd (1 + v) 0 + d)) (10 + i) (getD bd (10 + i) 0 + d)) v) ≡ length bd
-      go true = length-set (set (set bd (1 + v) _) (10 + i) _) 9 _ ∙ two
+      go : (t : Bool) → length (markedBoard t (set (set bd (storagePlace v) (storageAt bd v + d)) (takenPlace i) (takenAt bd i + d)) v) ≡ length bd
+      go true = length-set (set (set bd (storagePlace v) _) (takenPlace i) _) 9 _ ∙ two
       go false = two
 
   -- places of neither the storage, the marks nor the number taken
-  pub poured-other : (j : ℕ) → j ≢ 1 + v → j ≢ 9 → j ≢ 10 + i → getD (poured capacity v i d bd) j 0 ≡ getD bd j 0
-  poured-other j a b c = go (ltb 0 d && eqb (getD bd (1 + v) 0 + d) capacity)
+  pub poured-other : (j : ℕ) → j ≢ storagePlace v → j ≢ marksPlace → j ≢ takenPlace i → getD (poured capacity v i d bd) j 0 ≡ getD bd j 0
+  poured-other j a b c = go (ltb 0 d && eqb (storageAt bd v + d) capacity)
     where
-      two : getD (set (set bd (1 + v) (getD bd (1 + v) 0 + d)) (10 + i) (getD bd (10 + i) 0 + d)) j 0 ≡ getD bd j 0
-      two = getD-set-other (set bd (1 + v) _) (10 + i) j _ 0 c ∙ getD-set-other bd (1 + v) j _ 0 a
+      two : getD (set (set bd (storagePlace v) (storageAt bd v + d)) (takenPlace i) (takenAt bd i + d)) j 0 ≡ getD bd j 0
+      two = getD-set-other (set bd (storagePlace v) _) (takenPlace i) j _ 0 c ∙ getD-set-other bd (storagePlace v) j _ 0 a
 
-      go : (t : Bool) → getD (markedBoard t (set (set bd (1 + v) (getD bd (1 + v) 0 + d)) (10 + i) (getD bd (10 + i) 0 + d)) v) j 0 ≡ getD bd j 0
-      go true = getD-set-other (set (set bd (1 + v) _) (10 + i) _) 9 j _ 0 b ∙ two
+      go : (t : Bool) → getD (markedBoard t (set (set bd (storagePlace v) (storageAt bd v + d)) (takenPlace i) (takenAt bd i + d)) v) j 0 ≡ getD bd j 0
+      go true = getD-set-other (set (set bd (storagePlace v) _) (takenPlace i) _) 9 j _ 0 b ∙ two
       go false = two
 
 -- a store that adds at most x to its place
@@ -184,16 +185,16 @@ grown-set (b ∷ bd) (a ∷ l) (suc i) y x h k zero = h 0
 grown-set (b ∷ bd) (a ∷ l) (suc i) y x h k (suc j) = grown-set bd l i y x (λ n. h (suc n)) k j
 
 pub poured-grown : (bd : List ℕ) (capacity v i d x : ℕ) → v < 8 → d ≤ x → 128 ≤ x → (j : ℕ) → getD (poured capacity v i d bd) j 0 ≤ getD bd j 0 + x
-poured-grown bd capacity v i d x h k l = go (ltb 0 d && eqb (getD bd (1 + v) 0 + d) capacity)
+poured-grown bd capacity v i d x h k l = go (ltb 0 d && eqb (storageAt bd v + d) capacity)
   where
-    two : (j : ℕ) → getD (set (set bd (1 + v) (getD bd (1 + v) 0 + d)) (10 + i) (getD bd (10 + i) 0 + d)) j 0 ≤ getD bd j 0 + x
+    two : (j : ℕ) → getD (set (set bd (storagePlace v) (storageAt bd v + d)) (takenPlace i) (takenAt bd i + d)) j 0 ≤ getD bd j 0 + x
     two =
-        let held : ℕ = getD bd (1 + v) 0 + d in
-        let once : (j : ℕ) → getD (set bd (1 + v) held) j 0 ≤ getD bd j 0 + x = grown-set bd bd (1 + v) held x (λ j. omega arith) (omega arith) in
-        grown-set bd (set bd (1 + v) held) (10 + i) (getD bd (10 + i) 0 + d) x once (omega arith)
+        let held : ℕ = storageAt bd v + d in
+        let once : (j : ℕ) → getD (set bd (storagePlace v) held) j 0 ≤ getD bd j 0 + x = grown-set bd bd (storagePlace v) held x (λ j. omega arith) (omega arith) in
+        grown-set bd (set bd (storagePlace v) held) (takenPlace i) (takenAt bd i + d) x once (omega arith)
 
-    go : (t : Bool) (j : ℕ) → getD (markedBoard t (set (set bd (1 + v) (getD bd (1 + v) 0 + d)) (10 + i) (getD bd (10 + i) 0 + d)) v) j 0 ≤ getD bd j 0 + x
+    go : (t : Bool) (j : ℕ) → getD (markedBoard t (set (set bd (storagePlace v) (storageAt bd v + d)) (takenPlace i) (takenAt bd i + d)) v) j 0 ≤ getD bd j 0 + x
     go true =
-        let both : List ℕ = set (set bd (1 + v) (getD bd (1 + v) 0 + d)) (10 + i) (getD bd (10 + i) 0 + d) in
-        grown-set bd both 9 (getD both 9 0 + 2 ^ v) x two (omega (arith, nine v i d bd h, shifted v h .1))
+        let both : List ℕ = set (set bd (storagePlace v) (storageAt bd v + d)) (takenPlace i) (takenAt bd i + d) in
+        grown-set bd both 9 (marksAt both + 2 ^ v) x two (omega (arith, nine v i d bd h, shifted v h .1))
     go false = two

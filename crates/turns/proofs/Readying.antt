@@ -1,299 +1,252 @@
--- What each stage of a turn asks for, from what the turn asks for. Assumes nothing.
-use mathlib.Core.Bool.{Bool, true, false, cond}
-use mathlib.Core.List.{List, [], _∷_}
-use mathlib.Core.Path.{_≡_, refl, sym, ap, _∙_}
-use Prim.Native.Nat.{ℕ, zero, suc, _+_, _-_, _≤_, _<_}
-use native.Mathlib.Nat.{le-trans}
+-- What each stage of a turn asks for, from what the stages before it left. Assumes nothing.
+use mathlib.Core.Bool.{Bool, true, false}
+use mathlib.Core.List.{List}
+use mathlib.Core.Path.{_≡_, refl, sym, ap, _∙_, subst}
+use Prim.Native.Nat.{ℕ, _+_, _-_, _≤_, _<_}
 use native.Mathlib.Omega.{arith}
-use lib.Dec.{eqb}
-use lib.ListN.{length, getD, set, length-set}
+use lib.ListN.{length, getD, length-set}
 use lib.Seq.{getD-set-other}
-use lib.IntN.{pos, _-ℤ_}
-use Rattle.general.specs.Tests.{has}
-use Rattle.general.proofs.Signed.{up, dn, lower-law}
-use Rattle.general.proofs.Tests.{absurd-bool, by-eqb, eq-of, only-le}
-use Rattle.rules.specs.Basin.{Kind, direct, project, instream, storage, Right, Basin}
-use Rattle.rules.specs.River.{Level, levelAt, along, reserved}
-use Rattle.rules.specs.Turn.{bit}
-use Rattle.records.specs.Records.{reservoirCount, rightCount, rightRecord, kindOf}
+use Rattle.general.specs.Tests.{has, bit}
+use Rattle.places.specs.Board.{duesFrom, boardLength, marksAt}
+use Rattle.rules.specs.Basin.{Right}
+use Rattle.records.specs.declared.rights.Kind.{Kind}
+use Rattle.records.specs.declared.rights.Kind.the-variants.{Direct, Project, Instream, Storage}
+use Rattle.records.specs.Records.{reservoirCount}
 use Rattle.river.specs.declared.Seen.{Seen}
 use Rattle.river.specs.declared.Seen.the-variants as seen
-use Rattle.records.specs.Table.{pathBy}
-use Rattle.river.specs.Arrays.{levelsOf, seenOn, rowLevel}
-use Rattle.river.proofs.Levels.{change-read, diverted-read, released-read, levels-at}
+use Rattle.river.specs.Arrays.{seenOn}
 use Rattle.records.proofs.Table.{by-self}
 use Rattle.river.proofs.Table.{by-in}
-use Rattle.returns.specs.Dues.{mostAmount}
+use Rattle.rules.specs.Accepted.{mostAmount}
+use Rattle.grants.specs.declared.grants.Reason.{Reason}
 use Rattle.grants.specs.Grants.{CanSee, seenBy, partOf}
-use Rattle.returns.specs.Returning.{RiverOk, BoardOk}
 use Rattle.turns.specs.Finish.{CanFinish}
-use Rattle.turns.specs.State.{Setting, Within}
-use Rattle.grants.specs.Stages.{isStorage, askIn, CanAsk, levelsTaken, CanTake, capacityIn, boardStored, CanFill, drawnIn, boardDrawn, levelsReleased, homeRow, CanDraw}
-use Rattle.turns.proofs.Facts.{rows-st, few, path-in, reservoirs-count, rights-count, right-is, capacity-is, home-in, right-good, place-most, kind-is, limit-is, row-in, row-on, efficiency-is, points-ok, project-behind, storage-behind}
+use Rattle.grants.specs.Stages.{isInstream, CanAsk, CanTake, capacityIn, boardStored, CanFill, drawnIn, boardDrawn, homeRow, CanDraw}
+use Rattle.turns.proofs.Given.{RightAt, theRecord, theKind, theRow, theReservoir, thePath, BeforeTurn, RiverGiven, AfterRiver, AfterStorage, thePart, theDemand, theShare}
+use Rattle.turns.proofs.Facts.{rows-st, few, path-in, reservoirs-count, rights-count, right-is, capacity-is, home-in}
+use Rattle.turns.proofs.RightFacts.{right-good, place-most, limit-is, row-in, row-on, efficiency-is, points-ok, project-behind, storage-behind}
 use Rattle.turns.proofs.Places.{poured-size, poured-grown, poured-other}
-use Rattle.grants.proofs.RightKinds.{not-project}
+use Rattle.turns.proofs.RowReads.{taken-read, release-read, lowered}
+use Rattle.grants.proofs.Looks.{seen-along}
 use Rattle.turns.proofs.Demands.{ask-most, ask-marked, lowest-is}
 
--- ---- what a river part leaves of the arrays, row by row
+pub few-reservoirs : (R : RightAt) → reservoirCount (R .reservoirs) ≤ 8
+few-reservoirs R = omega (arith, reservoirs-count (R .setting), R .setting .accepted .few-reservoirs)
 
-reserved-read : (n d : ℕ) (q f a f′ a′ : List ℕ) → levelsOf n f′ a′ ≡ along (reserved d) q (levelsOf n f a) → (w : ℕ) → w < n → (getD f′ w 0 ≡ getD f w 0) × (getD a′ w 0 ≤ getD a w 0)
-unfolding reserved
-reserved-read n d q f a f′ a′ e w h = go (has w q) (change-read n (reserved d) q f a f′ a′ e w h)
-  where
-    less : (x y : ℕ) → pos x ≡ pos y -ℤ pos d → x ≤ y
-    less x y z = omega (arith, lower-law (pos y) d, ap up z, ap dn z)
+-- what may change on the board from one stage to the next: storages, marks and water taken, by no more than a grant
+pub record BoardMoved (before after : List ℕ) (most : ℕ) : Type 0 where
+  pub size : length after ≡ length before
+  pub filled : (j : ℕ) → getD after j 0 ≤ getD before j 0 + most
+  pub dues : (j : ℕ) → duesFrom ≤ j → getD after j 0 ≡ getD before j 0
+  pub month : getD after 0 0 ≡ getD before 0 0
 
-    go : (c : Bool) → rowLevel f′ a′ w ≡ cond c (reserved d (rowLevel f a w)) (rowLevel f a w) → (getD f′ w 0 ≡ getD f w 0) × (getD a′ w 0 ≤ getD a w 0)
-    go true z = (ap up (ap (λ (x : Level). x .flow) z), less _ _ (ap (λ (x : Level). x .available) z))
-    go false z = (ap up (ap (λ (x : Level). x .flow) z), let y : getD a′ w 0 ≡ getD a w 0 = ap up (ap (λ (x : Level). x .available) z) in omega arith)
+unmoved : (l : List ℕ) (most : ℕ) → BoardMoved l l most
+unmoved l most = record { size = refl; filled = λ j. omega arith; dues = λ j h. refl; month = refl }
 
-same-flow : (n : ℕ) (f a f′ : List ℕ) → levelsOf n f′ a ≡ levelsOf n f a → (w : ℕ) → w < n → getD f′ w 0 ≡ getD f w 0
-same-flow n f a f′ e w h = ap up (ap (λ (x : Level). x .flow) (sym (levels-at n f′ a w h) ∙ ap (λ (l : List Level). levelAt l w) e ∙ levels-at n f a w h))
+module _ (T : BeforeTurn) where
+  abbrev R : RightAt
+  R = T .right
 
-pub taken-read : (n : ℕ) (k : Kind) (d : ℕ) (t : List ℕ) (row : ℕ) (f a f′ a′ : List ℕ) → levelsOf n f′ a′ ≡ levelsTaken k d t row (levelsOf n f a) → (w : ℕ) → w < n
-    → (getD f′ w 0 ≤ getD f w 0) × (getD a w 0 ≤ getD f w 0 → getD a′ w 0 ≤ getD f′ w 0)
-unfolding levelsTaken
-taken-read n direct d t row f a f′ a′ e w h = let z = diverted-read n d (pathBy t row) f a f′ a′ e w h in (omega (arith, z .0), λ l. omega (arith, z))
-taken-read n project d t row f a f′ a′ e w h = let z = diverted-read n d (pathBy t row) f a f′ a′ e w h in (omega (arith, z .0), λ l. omega (arith, z))
-taken-read n instream d t row f a f′ a′ e w h = let z = reserved-read n d (row ∷ []) f a f′ a′ e w h in (omega (arith, z .0), λ l. omega (arith, z))
-taken-read n storage d t row f a f′ a′ e w h = let z = diverted-read n d (pathBy t row) f a f′ a′ e w h in (omega (arith, z .0), λ l. omega (arith, z))
+  -- ---- the demand, and a look down the river
 
-pub release-read : (n : ℕ) (k : Kind) (x : ℕ) (t : List ℕ) (home row : ℕ) (f a f′ : List ℕ) → levelsOf n f′ a ≡ levelsReleased k x t home row (levelsOf n f a) → (w : ℕ) → w < n
-    → (getD f′ w 0 ≤ getD f w 0 + x) × (getD f w 0 ≤ getD f′ w 0)
-unfolding levelsReleased
-release-read n direct x t home row f a f′ e w h = let z = same-flow n f a f′ e w h in (omega arith, omega arith)
-release-read n project x t home row f a f′ e w h = let z = released-read n x _ f a f′ a e w h in (omega (arith, z .0, only-le (has w (Rattle.rules.specs.Path.untilRow row (pathBy t home))) x), omega (arith, z .0))
-release-read n instream x t home row f a f′ e w h = let z = same-flow n f a f′ e w h in (omega arith, omega arith)
-release-read n storage x t home row f a f′ e w h = let z = same-flow n f a f′ e w h in (omega arith, omega arith)
+  pub can-ask : CanAsk (R .reservoirs) (R .rights) (R .place) (T .month) (T .board)
+  can-ask = record {
+    place = R .in-list;
+    most = place-most R;
+    in-year = T .in-year;
+    size = T .board-ok .size;
+    stores = λ z. let there : theReservoir R < reservoirCount (R .reservoirs) = storage-behind R z in record {
+      there = there;
+      eight = omega (arith, few-reservoirs R);
+      taken = omega (arith, T .within .taken (R .place) (omega (arith, R .in-list, rights-count (R .setting))), ap (λ (x : Right). x .limit) (right-is (R .setting) (R .place) (R .in-list)), limit-is R);
+      held = omega (arith, T .within .storages (theReservoir R) (omega (arith, there, reservoirs-count (R .setting))), capacity-is (R .setting) (theReservoir R) there);
+    };
+  }
 
-lowered : (l : List ℕ) (i x j : ℕ) → getD (set l i (getD l i 0 - x)) j 0 ≤ getD l j 0
-lowered [] i x j = omega arith
-lowered (y ∷ l) zero x zero = omega arith
-lowered (y ∷ l) zero x (suc j) = omega arith
-lowered (y ∷ l) (suc i) x zero = omega arith
-lowered (y ∷ l) (suc i) x (suc j) = lowered l i x j
+  pub can-see : CanSee (R .stations) (R .table) (theRow R)
+  can-see = record {
+    row-ok = record { downhill = T .river-ok .downhill; on = row-on R };
+    stationed = λ q h. omega (arith, path-in (R .setting) (theRow R) (row-in R) q h, rows-st (R .setting));
+  }
 
--- ---- the stages
+  -- ---- the river part fits
 
-module _ (b : Basin) (st t rs : List ℕ) (pa : List (List ℕ)) (ri : List ℕ) (w : Setting b st t rs pa ri) (i : ℕ) (hi : i < rightCount ri) where
-  abbrev kb : ℕ
-  kb = (rightRecord ri i) .kind
+  module _ (G : RiverGiven T) where
+    abbrev ask : ℕ
+    ask = G .demand
 
-  abbrev row : ℕ
-  row = (rightRecord ri i) .row
+    abbrev d : ℕ
+    d = G .river .part
 
-  abbrev v : ℕ
-  v = (rightRecord ri i) .reservoir
+    part-most : (y : Seen) → partOf (T .available) ask y ≤ ask
+    unfolding partOf
+    part-most (seen.Called q) = omega arith
+    part-most (seen.Low q) = omega arith
 
-  abbrev p : List ℕ
-  p = pathBy t row
+    pub part-le : d ≤ ask
+    part-le = omega (arith, G .gave .part, part-most (seenBy (theKind R) (R .table) (T .available) (T .short) (theRow R)))
 
-  storage-there : isStorage (kindOf kb) ≡ true → v < reservoirCount rs
-  storage-there e = storage-behind b st t rs pa ri w i hi (kind-is b st t rs pa ri w i hi ∙ is (kindOf kb) e)
-    where
-      is : (k : Kind) → isStorage k ≡ true → k ≡ storage
-      is direct z = absurd-bool z refl
-      is project z = absurd-bool z refl
-      is instream z = absurd-bool z refl
-      is storage z = refl
+    pub ask-small : ask ≤ mostAmount
+    ask-small = omega (arith, G .asked, ask-most T (theKind R))
 
-  few-reservoirs : reservoirCount rs ≤ 8
-  few-reservoirs = omega (arith, reservoirs-count b st t rs pa ri w, w .accepted .few-reservoirs)
+    path-fits : (y : Seen) → seenOn (T .short) (T .available) (theRow R) (thePath R) ≡ y → (k : ℕ) → has k (thePath R) ≡ true → partOf (T .available) ask y ≤ getD (T .available) k 0
+    unfolding partOf
+    path-fits (seen.Called q) e k h = omega arith
+    path-fits (seen.Low q) e k h = omega (arith, lowest-is T q e .3 k h)
 
-  module _ (m : ℕ) (hm : m < 12) (f a : List ℕ) (sh : List Bool) (bd : List ℕ) (river : RiverOk t f a 4000000000000000000) (board : BoardOk bd 4000000000000000000) (marks : 64 ≤ length sh) (within : Within b bd) where
-    pub can-ask : CanAsk rs ri i m bd
-    can-ask = record {
-      place = hi;
-      most = place-most b st t rs pa ri w i hi;
-      in-year = hm;
-      size = board .size;
-      stores = λ z. let there : v < reservoirCount rs = storage-there z in record {
-        there = there;
-        eight = omega (arith, few-reservoirs);
-        taken = omega (arith, within .taken i (omega (arith, rights-count b st t rs pa ri w)), ap (λ (x : Right). x .limit) (right-is b st t rs pa ri w i hi), limit-is b st t rs pa ri w i hi);
-        held = omega (arith, within .storages v (omega (arith, reservoirs-count b st t rs pa ri w)), capacity-is b st t rs pa ri w v there);
+    along-fits : isInstream (theKind R) ≡ false → (k : ℕ) → has k (thePath R) ≡ true → d ≤ getD (T .available) k 0
+    along-fits n k h = omega (arith, G .gave .part, ap (partOf (T .available) ask) (seen-along (theKind R) (R .table) (T .available) (T .short) (theRow R) n), path-fits (seenOn (T .short) (T .available) (theRow R) (thePath R)) refl k h)
+
+    self : has (theRow R) (thePath R) ≡ true
+    self = by-self (R .table) (T .river-ok .downhill) (theRow R) (row-on R)
+
+    own-fits : (k : Kind) → partOf (T .available) ask (seenBy k (R .table) (T .available) (T .short) (theRow R)) ≤ getD (T .available) (theRow R) 0
+    unfolding partOf
+    own-fits Direct = path-fits (seenOn (T .short) (T .available) (theRow R) (thePath R)) refl (theRow R) self
+    own-fits Project = path-fits (seenOn (T .short) (T .available) (theRow R) (thePath R)) refl (theRow R) self
+    own-fits Instream = omega arith
+    own-fits Storage = path-fits (seenOn (T .short) (T .available) (theRow R) (thePath R)) refl (theRow R) self
+
+    in-path : (k : ℕ) → has k (thePath R) ≡ true → k < 64
+    in-path = by-in (R .table) (T .river-ok .downhill) (theRow R) (row-on R)
+
+    pub can-take : CanTake (theKind R) (R .table) (theRow R) d (T .flow) (T .available)
+    can-take = record {
+      on = row-on R;
+      places = T .river-ok .places₂;
+      divert-ok = λ n. record {
+        row-ok = record { downhill = T .river-ok .downhill; on = row-on R };
+        places = T .river-ok .places;
+        places₂ = T .river-ok .places₂;
+        flows = record { at-least = λ k h. omega (arith, along-fits n k h, T .river-ok .within k (in-path k h)) };
+        availables = record { at-least = along-fits n };
       };
+      enough = omega (arith, G .gave .part, own-fits (theKind R));
     }
 
-    pub can-see : CanSee st t row
-    can-see = record {
-      row-ok = record { downhill = river .downhill; on = row-on b st t rs pa ri w i hi };
-      stationed = λ q h. omega (arith, path-in b st t rs pa ri w row (row-in b st t rs pa ri w i hi) q h, rows-st b st t rs pa ri w);
+    pub can-fill : CanFill (theKind R) (R .reservoirs) (theReservoir R) (R .place) d (T .board)
+    can-fill = record {
+      most = place-most R;
+      small = omega (arith, part-le, ask-small);
+      board = T .board-ok;
+      there = λ z. (omega (arith, storage-behind R z, few-reservoirs R), storage-behind R z);
     }
 
-    -- ---- the river part fits
+    -- a storage right that gets something had no mark
+    pub unmarked : theKind R ≡ Storage → 0 < d → bit (marksAt (T .board)) (theReservoir R) ≡ false
+    unmarked z h = go (bit (marksAt (T .board)) (theReservoir R)) refl
+      where
+        go : (c : Bool) → bit (marksAt (T .board)) (theReservoir R) ≡ c → bit (marksAt (T .board)) (theReservoir R) ≡ false
+        go true e = absurd (omega (arith, h, part-le, G .asked, ask-marked T z e))
+        go false e = e
 
-    module _ (ask d : ℕ) (ed : d ≡ partOf a ask (seenBy t a sh kb row)) (ea : ask ≡ askIn (kindOf kb) rs ri i m bd) where
-      part-le′ : (y : Seen) → partOf a ask y ≤ ask
-      unfolding partOf
-      part-le′ (seen.Called q) = omega arith
-      part-le′ (seen.Low q) = omega arith
+  -- ---- after the river part
 
-      pub part-le : d ≤ ask
-      part-le = omega (arith, part-le′ (seenBy t a sh kb row))
+  module _ (D : AfterRiver T) where
+    flow-less : (k : ℕ) → k < 64 → getD (D .flow) k 0 ≤ getD (T .flow) k 0
+    flow-less k h = taken-read 64 (theKind R) (thePart D) (R .table) (theRow R) (T .flow) (T .available) (D .flow) (D .available) (D .took .levels 64) k h .0
 
-      pub ask-small : ask ≤ mostAmount
-      ask-small = omega (arith, ask-most b st t rs pa ri w i hi m hm f a sh bd (kindOf kb))
+    within₁ : (k : ℕ) → k < 64 → getD (D .available) k 0 ≤ getD (D .flow) k 0
+    within₁ k h = taken-read 64 (theKind R) (thePart D) (R .table) (theRow R) (T .flow) (T .available) (D .flow) (D .available) (D .took .levels 64) k h .1 (T .river-ok .within k h)
 
-      path-fits : (y : Seen) → seenOn sh a row p ≡ y → (k : ℕ) → has k p ≡ true → partOf a ask y ≤ getD a k 0
-      unfolding partOf
-      path-fits (seen.Called q) e k h = omega arith
-      path-fits (seen.Low q) e k h = omega (arith, lowest-is b st t rs pa ri w i hi m hm f a sh bd q e .3 k h)
-
-      along-fits : eqb kb 3 ≡ false → (k : ℕ) → has k p ≡ true → d ≤ getD a k 0
-      along-fits n k h = omega (arith, ap (λ (c : Bool). partOf a ask (cond c (seen.Low row) (seenOn sh a row p))) n, path-fits (seenOn sh a row p) refl k h)
-
-      self : has row p ≡ true
-      self = by-self t (river .downhill) row (row-on b st t rs pa ri w i hi)
-
-      own-fits : (c : Bool) → eqb kb 3 ≡ c → d ≤ getD a row 0
-      unfolding partOf
-      own-fits true n = omega (arith, ap (λ (c : Bool). partOf a ask (cond c (seen.Low row) (seenOn sh a row p))) n)
-      own-fits false n = along-fits n row self
-
-      in-path : (k : ℕ) → has k p ≡ true → k < 64
-      in-path = by-in t (river .downhill) row (row-on b st t rs pa ri w i hi)
-
-      pub can-take : CanTake kb t row d f a
-      can-take = record {
-        on = row-on b st t rs pa ri w i hi;
-        places = river .places₂;
-        divert-ok = λ n. record {
-          row-ok = record { downhill = river .downhill; on = row-on b st t rs pa ri w i hi };
-          places = river .places;
-          places₂ = river .places₂;
-          flows = record { at-least = λ k h. omega (arith, along-fits n k h, river .within k (in-path k h)) };
-          availables = record { at-least = along-fits n };
-        };
-        enough = own-fits (eqb kb 3) refl;
-      }
-
-      pub can-fill : CanFill kb rs v i d bd
-      can-fill = record {
-        most = place-most b st t rs pa ri w i hi;
-        small = omega (arith, part-le, ask-small);
-        board = board;
-        there = λ z. (omega (arith, storage-there z, few-reservoirs), storage-there z);
-      }
-
-      -- a storage right that gets something had no mark
-      pub unmarked : isStorage (kindOf kb) ≡ true → 0 < d → bit (getD bd 9 0) v ≡ false
-      unmarked z h = go (bit (getD bd 9 0) v) refl
-        where
-          go : (c : Bool) → bit (getD bd 9 0) v ≡ c → bit (getD bd 9 0) v ≡ false
-          go true e = absurd (omega (arith, part-le, ask-marked b st t rs pa ri w i hi m hm f a sh bd (kindOf kb) z e))
-          go false e = e
-
-      -- ---- after the river part
-
-      module _ (f₁ a₁ bd₁ : List ℕ) (e₁ : (n : ℕ) → levelsOf n f₁ a₁ ≡ levelsTaken (kindOf kb) d t row (levelsOf n f a)) (eb : bd₁ ≡ boardStored (kindOf kb) (capacityIn rs v) v i d bd)
-          (fs : length f₁ ≡ length f) (gs : length a₁ ≡ length a) where
-        flow-less : (k : ℕ) → k < 64 → getD f₁ k 0 ≤ getD f k 0
-        flow-less k h = taken-read 64 (kindOf kb) d t row f a f₁ a₁ (e₁ 64) k h .0
-
-        within₁ : (k : ℕ) → k < 64 → getD a₁ k 0 ≤ getD f₁ k 0
-        within₁ k h = taken-read 64 (kindOf kb) d t row f a f₁ a₁ (e₁ 64) k h .1 (river .within k h)
-
-        stored-facts : (k : Kind) → (isStorage k ≡ true → v < 8) → (length (boardStored k (capacityIn rs v) v i d bd) ≡ length bd) × ((j : ℕ) → getD (boardStored k (capacityIn rs v) v i d bd) j 0 ≤ getD bd j 0 + mostAmount)
-            × ((j : ℕ) → 266 ≤ j → getD (boardStored k (capacityIn rs v) v i d bd) j 0 ≡ getD bd j 0) × (getD (boardStored k (capacityIn rs v) v i d bd) 0 0 ≡ getD bd 0 0)
-        unfolding boardStored
-        stored-facts direct o = (refl, (λ j. omega arith), (λ j h. refl), refl)
-        stored-facts project o = (refl, (λ j. omega arith), (λ j h. refl), refl)
-        stored-facts instream o = (refl, (λ j. omega arith), (λ j h. refl), refl)
-        stored-facts storage o =
-            let e : v < 8 = o refl in
-            let c = place-most b st t rs pa ri w i hi in (
-              poured-size bd (capacityIn rs v) v i d e c,
-              poured-grown bd (capacityIn rs v) v i d mostAmount e (omega (arith, part-le, ask-small)) (omega arith),
-              (λ j h. poured-other bd (capacityIn rs v) v i d e c j (λ z. omega arith) (λ z. omega arith) (λ z. omega arith)),
-              poured-other bd (capacityIn rs v) v i d e c 0 (λ z. omega arith) (λ z. omega arith) (λ z. omega arith),
-            )
-
-        facts₁ : (length bd₁ ≡ length bd) × ((j : ℕ) → getD bd₁ j 0 ≤ getD bd j 0 + mostAmount) × ((j : ℕ) → 266 ≤ j → getD bd₁ j 0 ≡ getD bd j 0) × (getD bd₁ 0 0 ≡ getD bd 0 0)
-        facts₁ = rw eb (stored-facts (kindOf kb) (λ z. omega (arith, storage-there z, few-reservoirs)))
-
-        pub size₁ : length bd₁ ≡ 970
-        size₁ = facts₁ .0 ∙ board .size
-
-        home-on : v < reservoirCount rs → homeRow rs v < 64
-        home-on h = omega (arith, home-in b st t rs pa ri w v h, few b st t rs pa ri w)
-
-        pub can-draw : CanDraw kb t rs v (ask - d) f₁ bd₁
-        can-draw = record {
-          there = λ z. let h : v < reservoirCount rs = project-behind b st t rs pa ri w i hi (eq-of z) in (h, omega (arith, few-reservoirs));
-          release-ok = λ z x l. let h : v < reservoirCount rs = project-behind b st t rs pa ri w i hi (eq-of z) in record {
-            row-ok = record { downhill = river .downhill; on = home-on h };
-            places = omega (arith, river .places);
-            flows = record { fits = λ k q. let c : k < 64 = by-in t (river .downhill) (homeRow rs v) (home-on h) k q in omega (arith, flow-less k c, river .room k c, ask-small) };
-          };
-          size = size₁;
+    stored-moved : (k : Kind) → (k ≡ Storage → theReservoir R < 8) → BoardMoved (T .board) (boardStored k (capacityIn (R .reservoirs) (theReservoir R)) (theReservoir R) (R .place) (thePart D) (T .board)) mostAmount
+    unfolding boardStored
+    stored-moved Direct o = unmoved (T .board) mostAmount
+    stored-moved Project o = unmoved (T .board) mostAmount
+    stored-moved Instream o = unmoved (T .board) mostAmount
+    stored-moved Storage o =
+        let e : theReservoir R < 8 = o refl in
+        let c = place-most R in
+        let capacity : ℕ = capacityIn (R .reservoirs) (theReservoir R) in
+        record {
+          size = poured-size (T .board) capacity (theReservoir R) (R .place) (thePart D) e c;
+          filled = poured-grown (T .board) capacity (theReservoir R) (R .place) (thePart D) mostAmount e (omega (arith, part-le (D .given), ask-small (D .given))) (omega arith);
+          dues = λ j h. poured-other (T .board) capacity (theReservoir R) (R .place) (thePart D) e c j (λ z. omega arith) (λ z. omega arith) (λ z. omega arith);
+          month = poured-other (T .board) capacity (theReservoir R) (R .place) (thePart D) e c 0 (λ z. omega arith) (λ z. omega arith) (λ z. omega arith);
         }
 
-        -- ---- after the part from storage
+    moved₁ : BoardMoved (T .board) (D .board) mostAmount
+    moved₁ = subst (λ (l : List ℕ). BoardMoved (T .board) l mostAmount) (sym (D .stored)) (stored-moved (theKind R) (λ z. omega (arith, storage-behind R z, few-reservoirs R)))
 
-        module _ (x : ℕ) (f₂ bd₂ : List ℕ) (ex : x ≡ drawnIn (kindOf kb) (ask - d) v bd₁) (e₂ : (n : ℕ) → levelsOf n f₂ a₁ ≡ levelsReleased (kindOf kb) x t (homeRow rs v) row (levelsOf n f₁ a₁))
-            (eb₂ : bd₂ ≡ boardDrawn (kindOf kb) x v bd₁) (fs₂ : length f₂ ≡ length f₁) where
-          drawn-le : (k : Kind) → drawnIn k (ask - d) v bd₁ ≤ ask - d
-          unfolding drawnIn
-          drawn-le direct = omega arith
-          drawn-le project = omega arith
-          drawn-le instream = omega arith
-          drawn-le storage = omega arith
+    pub size₁ : length (D .board) ≡ boardLength
+    size₁ = moved₁ .size ∙ T .board-ok .size
 
-          pub both-small : d + x ≤ mostAmount
-          both-small = omega (arith, drawn-le (kindOf kb), part-le, ask-small)
+    home-on : theReservoir R < reservoirCount (R .reservoirs) → homeRow (R .reservoirs) (theReservoir R) < 64
+    home-on h = omega (arith, home-in (R .setting) (theReservoir R) h, few (R .setting))
 
-          drawn-facts : (k : Kind) → (k ≡ project → v < 8) → (length (boardDrawn k x v bd₁) ≡ length bd₁) × ((j : ℕ) → getD (boardDrawn k x v bd₁) j 0 ≤ getD bd₁ j 0)
-              × ((j : ℕ) → 266 ≤ j → getD (boardDrawn k x v bd₁) j 0 ≡ getD bd₁ j 0) × (getD (boardDrawn k x v bd₁) 0 0 ≡ getD bd₁ 0 0)
-          unfolding boardDrawn
-          drawn-facts direct o = (refl, (λ j. omega arith), (λ j h. refl), refl)
-          drawn-facts project o =
-              let e : v < 8 = o refl in (
-                length-set bd₁ (1 + v) (getD bd₁ (1 + v) 0 - x),
-                (λ j. lowered bd₁ (1 + v) x j),
-                (λ j h. getD-set-other bd₁ (1 + v) j _ 0 (λ z. omega arith)),
-                getD-set-other bd₁ (1 + v) 0 _ 0 (λ z. omega arith),
-              )
-          drawn-facts instream o = (refl, (λ j. omega arith), (λ j h. refl), refl)
-          drawn-facts storage o = (refl, (λ j. omega arith), (λ j h. refl), refl)
+    pub can-draw : CanDraw (theKind R) (R .table) (R .reservoirs) (theReservoir R) (theDemand D - thePart D) (D .flow) (D .board)
+    can-draw = record {
+      there = λ z. let h : theReservoir R < reservoirCount (R .reservoirs) = project-behind R z in (h, omega (arith, few-reservoirs R));
+      release-ok = λ z x l. let h : theReservoir R < reservoirCount (R .reservoirs) = project-behind R z in record {
+        row-ok = record { downhill = T .river-ok .downhill; on = home-on h };
+        places = omega (arith, T .river-ok .places, D .took .flow-size);
+        flows = record { fits = λ k q. let c : k < 64 = by-in (R .table) (T .river-ok .downhill) (homeRow (R .reservoirs) (theReservoir R)) (home-on h) k q in omega (arith, l, flow-less k c, T .river-ok .room k c, ask-small (D .given)) };
+      };
+      size = size₁;
+    }
 
-          project-eight : kindOf kb ≡ project → v < 8
-          project-eight e = by-eqb kb 2 (λ _. v < 8) (λ z. omega (arith, project-behind b st t rs pa ri w i hi z, few-reservoirs)) (λ z. absurd (not-project kb z e))
+  -- ---- after the part from storage
 
-          facts₂ : (length bd₂ ≡ length bd₁) × ((j : ℕ) → getD bd₂ j 0 ≤ getD bd₁ j 0) × ((j : ℕ) → 266 ≤ j → getD bd₂ j 0 ≡ getD bd₁ j 0) × (getD bd₂ 0 0 ≡ getD bd₁ 0 0)
-          facts₂ = rw eb₂ (drawn-facts (kindOf kb) project-eight)
+  module _ (S : AfterStorage T) where
+    abbrev lacking : ℕ
+    lacking = theDemand (S .river) - thePart (S .river)
 
-          pub size₂ : length bd₂ ≡ length bd
-          size₂ = facts₂ .0 ∙ facts₁ .0
+    drawn-le : (k : Kind) → drawnIn k lacking (theReservoir R) (S .river .board) ≤ lacking
+    unfolding drawnIn
+    drawn-le Direct = omega arith
+    drawn-le Project = omega arith
+    drawn-le Instream = omega arith
+    drawn-le Storage = omega arith
 
-          pub month₂ : getD bd₂ 0 0 ≡ getD bd 0 0
-          month₂ = facts₂ .3 ∙ facts₁ .3
+    both-small : thePart (S .river) + S .drawn ≤ mostAmount
+    both-small = omega (arith, S .drew .amount, drawn-le (theKind R), part-le (S .river .given), ask-small (S .river .given))
 
-          pub dues₂ : (j : ℕ) → 266 ≤ j → getD bd₂ j 0 ≡ getD bd j 0
-          dues₂ j h = facts₂ .2 j h ∙ facts₁ .2 j h
+    drawn-moved : (k : Kind) → (k ≡ Project → theReservoir R < 8) → BoardMoved (S .river .board) (boardDrawn k (S .drawn) (theReservoir R) (S .river .board)) 0
+    unfolding boardDrawn
+    drawn-moved Direct o = unmoved (S .river .board) 0
+    drawn-moved Project o =
+        let e : theReservoir R < 8 = o refl in
+        let l : List ℕ = S .river .board in
+        record {
+          size = length-set l (1 + theReservoir R) (getD l (1 + theReservoir R) 0 - S .drawn);
+          filled = λ j. omega (arith, lowered l (1 + theReservoir R) (S .drawn) j);
+          dues = λ j h. getD-set-other l (1 + theReservoir R) j _ 0 (λ z. omega arith);
+          month = getD-set-other l (1 + theReservoir R) 0 _ 0 (λ z. omega arith);
+        }
+    drawn-moved Instream o = unmoved (S .river .board) 0
+    drawn-moved Storage o = unmoved (S .river .board) 0
 
-          pub filled₂ : (j : ℕ) → getD bd₂ j 0 ≤ getD bd j 0 + mostAmount
-          filled₂ j = le-trans (facts₂ .1 j) (facts₁ .1 j)
+    moved₂ : BoardMoved (S .river .board) (S .board) 0
+    moved₂ = subst (λ (l : List ℕ). BoardMoved (S .river .board) l 0) (sym (S .drew .board)) (drawn-moved (theKind R) (λ z. omega (arith, project-behind R z, few-reservoirs R)))
 
-          pub grown₂ : (k : ℕ) → k < 64 → getD f₂ k 0 ≤ getD f k 0 + mostAmount
-          grown₂ k h = omega (arith, release-read 64 (kindOf kb) x t (homeRow rs v) row f₁ a₁ f₂ (e₂ 64) k h .0, flow-less k h, both-small)
+    -- from the turn's beginning
+    pub board-moved : BoardMoved (T .board) (S .board) mostAmount
+    board-moved = record {
+      size = moved₂ .size ∙ moved₁ (S .river) .size;
+      filled = λ j. omega (arith, moved₂ .filled j, moved₁ (S .river) .filled j);
+      dues = λ j h. moved₂ .dues j h ∙ moved₁ (S .river) .dues j h;
+      month = moved₂ .month ∙ moved₁ (S .river) .month;
+    }
 
-          pub within₂ : (k : ℕ) → k < 64 → getD a₁ k 0 ≤ getD f₂ k 0
-          within₂ k h = omega (arith, release-read 64 (kindOf kb) x t (homeRow rs v) row f₁ a₁ f₂ (e₂ 64) k h .1, within₁ k h)
+    pub grown₂ : (k : ℕ) → k < 64 → getD (S .flow) k 0 ≤ getD (T .flow) k 0 + mostAmount
+    grown₂ k h = omega (arith, release-read 64 (theKind R) (S .drawn) (R .table) (homeRow (R .reservoirs) (theReservoir R)) (theRow R) (S .river .flow) (S .river .available) (S .flow) (S .drew .levels 64 (S .river .available)) k h .0, flow-less (S .river) k h, both-small)
 
-          pub can-finish : CanFinish t pa ri i (rightRecord ri i) d x f₂ a₁ sh bd₂
-          can-finish = record {
-            small = both-small;
-            efficient = omega (arith, (right-good b st t rs pa ri w i hi) .efficiency-most, efficiency-is b st t rs pa ri w i hi);
-            on = row-on b st t rs pa ri w i hi;
-            points-ok = points-ok b st t rs pa ri w i hi;
-            river = record {
-              downhill = river .downhill;
-              places = omega (arith, river .places);
-              places₂ = omega (arith, river .places₂);
-              room = λ k h. omega (arith, grown₂ k h, river .room k h);
-              within = within₂;
-            };
-            board = record { size = size₂ ∙ board .size; room = record { room = λ j. omega (arith, filled₂ j, board .room .room j) } };
-            marks = marks;
-          }
+    within₂ : (k : ℕ) → k < 64 → getD (S .river .available) k 0 ≤ getD (S .flow) k 0
+    within₂ k h = omega (arith, release-read 64 (theKind R) (S .drawn) (R .table) (homeRow (R .reservoirs) (theReservoir R)) (theRow R) (S .river .flow) (S .river .available) (S .flow) (S .drew .levels 64 (S .river .available)) k h .1, within₁ (S .river) k h)
+
+    pub can-finish : (y : Reason) → CanFinish (R .table) (R .patterns) (R .rights) (R .place) (theRecord R) (theShare S y) (S .flow) (S .river .available) (T .short) (S .board)
+    can-finish y = record {
+      small = both-small;
+      efficient = omega (arith, (right-good R) .efficiency-most, efficiency-is R);
+      on = row-on R;
+      points-ok = points-ok R;
+      river = record {
+        downhill = T .river-ok .downhill;
+        places = omega (arith, T .river-ok .places, S .drew .flow-size, S .river .took .flow-size);
+        places₂ = omega (arith, T .river-ok .places₂, S .river .took .available-size);
+        room = λ k h. omega (arith, grown₂ k h, T .river-ok .room k h);
+        within = within₂;
+      };
+      board = record { size = board-moved .size ∙ T .board-ok .size; room = record { room = λ j. omega (arith, board-moved .filled j, T .board-ok .room .room j) } };
+      marks = T .marks;
+    }

@@ -2,7 +2,7 @@
 use mathlib.Core.Bool.{Bool, true, false, cond}
 use mathlib.Core.List.{List, [], _∷_, map}
 use mathlib.Core.Path.{_≡_, refl, sym, ap, _∙_, subst}
-use Prim.Native.Nat.{ℕ, _+_, _-_, _≤_, _<_}
+use Prim.Native.Nat.{ℕ, _+_, _-_, _<_}
 use native.Mathlib.Omega.{arith}
 use lib.Dec.{ltb}
 use lib.ListN.{getD}
@@ -10,53 +10,70 @@ use lib.IntN.{pos}
 use lib.Signed.{leZ, ≤ℤ-refl}
 use Rattle.general.specs.Tests.{has}
 use Rattle.general.proofs.Search.{has-none, has-head, has-tail, has-other}
-use Rattle.general.proofs.Tests.{absurd-bool, true-of, by-eqb, eqb-other, lt-of}
-use Rattle.rules.specs.Basin.{Station, Kind, direct, project, instream, storage, Right, Basin, rows}
+use Rattle.general.proofs.Tests.{absurd-bool, true-of, by-eqb, lt-of}
+use Rattle.rules.specs.Basin as rules
+use Rattle.rules.specs.Basin.{Station, direct, project, instream, storage, Right, Basin, rows}
 use Rattle.rules.specs.River.{availableAt, lowest}
-use Rattle.rules.specs.Turn.{State, pathOf, demand, called, riverPart, riverStage, storagePart, storageStage, returnStage, Reason, met, calledOut, riverLow, shortage, reasonOf, keepIf, lowestOn, lowRows, numberAt, controlling, Grant, turn}
+use Rattle.rules.specs.Turn.{State, pathOf, demand, called, riverPart, riverStage, storagePart, storageStage, returnStage, met, calledOut, riverLow, shortage, reasonOf, keepIf, lowestOn, lowRows, numberAt, controlling, Grant, turn}
 use Rattle.rules.specs.Month.{reasonNumber}
-use Rattle.records.specs.Records.{stationsOf, rightCount, rightRecord, rightOf}
+use Rattle.records.specs.declared.rights.Kind.{Kind}
+use Rattle.records.specs.declared.rights.Kind.the-variants.{Direct, Project, Instream, Storage}
+use Rattle.records.specs.Records.{stationsOf, kindOf}
 use Rattle.river.specs.declared.Seen.{Seen}
 use Rattle.river.specs.declared.Seen.the-variants as seen
-use Rattle.records.specs.Table.{pathBy}
 use Rattle.river.specs.Arrays.{seenOn}
 use Rattle.grants.specs.declared.grants.Grant as program
-use Rattle.grants.specs.declared.grants.Reason as why
+use Rattle.grants.specs.declared.grants.Reason.{Reason as ReasonMade}
 use Rattle.grants.specs.declared.grants.Reason.the-variants.{Met, Called, StorageOut}
 use Rattle.grants.specs.declared.grants.RiverPart.{RiverPart}
 use Rattle.grants.specs.Grants as grants
 use Rattle.grants.specs.Grants.{seenBy, RiverGave}
 use Rattle.turns.specs.Finish.{shortReason}
-use Rattle.turns.specs.State.{stateOf, shortOf, Setting, whyOf, namedBy, homeOf, Tells}
-use Rattle.grants.proofs.RightKinds.{by-kind}
-use Rattle.turns.proofs.Facts.{path-in, kind-is, row-is, row-in}
+use Rattle.turns.specs.State.{stateOf, shortOf, whyOf, namedBy, homeOf, Tells}
+use Rattle.turns.proofs.Given.{RightAt, theKind, theRow, thePath, theRight, BeforeTurn, theState}
+use Rattle.turns.proofs.Facts.{path-in}
+use Rattle.turns.proofs.RightFacts.{kind-is, row-is, row-in}
 use Rattle.grants.proofs.Looks.{seen-called}
 use Rattle.turns.proofs.Demands.{path-of, called-is, available-is, lowest-is, short-at}
 
 -- ---- the turn by its stages
 
-module _ (b : Basin) (m i : ℕ) (r : Right) (s : State) (a d x : ℕ) (s₁ s₂ : State)
-    (ea : a ≡ demand (r .kind) b m i r s) (ed : d ≡ riverPart (r .kind) b r s a) (e₁ : s₁ ≡ riverStage (r .kind) b i r d s)
-    (ex : x ≡ storagePart (r .kind) r s₁ (a - d)) (e₂ : s₂ ≡ storageStage (r .kind) b r x s₁) where
-  pub turn-after : (turn b m i r s) .after-returns ≡ returnStage (r .kind) b r (d + x) (ltb (d + x) a) s₂
-  unfolding turn
-  turn-after = sym (rw (e₂, ex, e₁, ed, ea))
+-- what each stage of a turn gave, and the state that it left
+pub record Staged (b : Basin) (m i : ℕ) (r : Right) (s : State) : Type 0 where
+  pub ask : ℕ
+  pub part : ℕ
+  pub drawn : ℕ
+  pub after-river : State
+  pub after-storage : State
+  pub ask-is : ask ≡ demand (r .kind) b m i r s
+  pub part-is : part ≡ riverPart (r .kind) b r s ask
+  pub river-is : after-river ≡ riverStage (r .kind) b i r part s
+  pub drawn-is : drawn ≡ storagePart (r .kind) r after-river (ask - part)
+  pub storage-is : after-storage ≡ storageStage (r .kind) b r drawn after-river
 
-  pub turn-river : (turn b m i r s) .grant .fromRiver ≡ d
-  unfolding turn
-  turn-river = sym (rw (ed, ea))
+module _ (b : Basin) (m i : ℕ) (r : Right) (s : State) (g : Staged b m i r s) where
+  abbrev isShort : Bool
+  isShort = ltb (g .part + g .drawn) (g .ask)
 
-  pub turn-storage : (turn b m i r s) .grant .fromStorage ≡ x
+  pub turn-after : (turn b m i r s) .after-returns ≡ returnStage (r .kind) b r (g .part + g .drawn) isShort (g .after-storage)
   unfolding turn
-  turn-storage = sym (rw (ex, e₁, ed, ea))
+  turn-after = sym (rw (g .storage-is, g .drawn-is, g .river-is, g .part-is, g .ask-is))
 
-  pub turn-reason : (turn b m i r s) .grant .reason ≡ reasonOf b r s (ltb (d + x) a)
+  pub turn-river : (turn b m i r s) .grant .fromRiver ≡ g .part
   unfolding turn
-  turn-reason = sym (rw (ex, e₁, ed, ea))
+  turn-river = sym (rw (g .part-is, g .ask-is))
 
-  pub turn-stations : (turn b m i r s) .grant .stations ≡ controlling b r s (reasonOf b r s (ltb (d + x) a))
+  pub turn-storage : (turn b m i r s) .grant .fromStorage ≡ g .drawn
   unfolding turn
-  turn-stations = sym (rw (ex, e₁, ed, ea))
+  turn-storage = sym (rw (g .drawn-is, g .river-is, g .part-is, g .ask-is))
+
+  pub turn-reason : (turn b m i r s) .grant .reason ≡ reasonOf b r s isShort
+  unfolding turn
+  turn-reason = sym (rw (g .drawn-is, g .river-is, g .part-is, g .ask-is))
+
+  pub turn-stations : (turn b m i r s) .grant .stations ≡ controlling b r s (reasonOf b r s isShort)
+  unfolding turn
+  turn-stations = sym (rw (g .drawn-is, g .river-is, g .part-is, g .ask-is))
 
 -- ---- members of lists
 
@@ -81,137 +98,133 @@ low-is b r s x h = h
 
 -- ---- the reason and the station of a short right
 
-module _ (b : Basin) (st t rs : List ℕ) (pa : List (List ℕ)) (ri : List ℕ) (w : Setting b st t rs pa ri) (i : ℕ) (hi : i < rightCount ri) (f a : List ℕ) (sh : List Bool) (bd : List ℕ) where
+module _ (T : BeforeTurn) where
+  abbrev R : RightAt
+  R = T .right
+
   abbrev r : Right
-  r = rightOf ri i
-
-  abbrev kb : ℕ
-  kb = (rightRecord ri i) .kind
-
-  abbrev row : ℕ
-  row = (rightRecord ri i) .row
+  r = theRight R
 
   abbrev p : List ℕ
-  p = pathBy t row
+  p = thePath R
 
   abbrev s : State
-  s = stateOf b f a sh bd
+  s = theState T
 
-  on-path : (q : ℕ) → has q p ≡ true → q < rows b
-  on-path = path-in b st t rs pa ri w row (row-in b st t rs pa ri w i hi)
+  on-path : (q : ℕ) → has q p ≡ true → q < rows (R .basin)
+  on-path = path-in (R .setting) (theRow R) (row-in R)
 
-  numbers : (q : ℕ) → numberAt (stationsOf st) q ≡ numberAt (b .stations) q
-  numbers q = ap (λ (l : List Station). numberAt l q) (sym (w .stations))
+  numbers : (q : ℕ) → numberAt (stationsOf (R .stations)) q ≡ numberAt (R .basin .stations) q
+  numbers q = ap (λ (l : List Station). numberAt l q) (sym (R .setting .stations))
 
   none-met : whyOf Met ≡ reasonNumber met
   unfolding whyOf reasonNumber
   none-met = refl
 
-  zero-named : has (namedBy (homeOf b r) Met) (controlling b r s met) ≡ true
+  zero-named : has (namedBy (homeOf (R .basin) r) Met) (controlling (R .basin) r s met) ≡ true
   unfolding namedBy controlling
   zero-named = has-head 0 0 [] refl
 
   -- a short right on the path calls it
-  called-named : (q : ℕ) → seenOn sh a row p ≡ seen.Called q → (called b r s ≡ true) × (has (numberAt (stationsOf st) q) (controlling b r s calledOut) ≡ true)
+  called-named : (q : ℕ) → seenOn (T .short) (T .available) (theRow R) p ≡ seen.Called q → (called (R .basin) r s ≡ true) × (has (numberAt (stationsOf (R .stations)) q) (controlling (R .basin) r s calledOut) ≡ true)
   unfolding controlling stateOf
   called-named q e =
-      let c = seen-called sh a row p q e in (
-        called-is b st t rs pa ri w i hi 0 (omega arith) f a sh bd ∙ c .2,
-        subst (λ (x : ℕ). has x (map (numberAt (b .stations)) (keepIf (λ k. getD (shortOf (rows b) sh) k false) (pathOf b r))) ≡ true) (sym (numbers q))
-            (has-map (numberAt (b .stations)) q _ (has-keep _ q (pathOf b r) (rw (path-of b st t rs pa ri w i hi) (c .0)) (short-at (rows b) sh q (on-path q (c .0)) ∙ c .1))),
+      let c = seen-called (T .short) (T .available) (theRow R) p q e in (
+        called-is T ∙ c .2,
+        subst (λ (x : ℕ). has x (map (numberAt (R .basin .stations)) (keepIf (λ k. getD (shortOf (rows (R .basin)) (T .short)) k false) (pathOf (R .basin) r))) ≡ true) (sym (numbers q))
+            (has-map (numberAt (R .basin .stations)) q _ (has-keep _ q (pathOf (R .basin) r) (rw (path-of R) (c .0)) (short-at (rows (R .basin)) (T .short) q (on-path q (c .0)) ∙ c .1))),
       )
 
-  -- else a row with the lowest available flow
-  low-here : (q : ℕ) → seenOn sh a row p ≡ seen.Low q → (called b r s ≡ false) × (has (numberAt (stationsOf st) q) (map (numberAt (b .stations)) (lowestOn (s .levels) (pathOf b r))) ≡ true)
+  -- else a (theRow R) with the lowest available flow
+  low-here : (q : ℕ) → seenOn (T .short) (T .available) (theRow R) p ≡ seen.Low q → (called (R .basin) r s ≡ false) × (has (numberAt (stationsOf (R .stations)) q) (map (numberAt (R .basin .stations)) (lowestOn (s .levels) (pathOf (R .basin) r))) ≡ true)
   unfolding lowestOn
   low-here q e =
-      let o = lowest-is b st t rs pa ri w i hi 0 (omega arith) f a sh bd q e in (
-        called-is b st t rs pa ri w i hi 0 (omega arith) f a sh bd ∙ o .2,
-        subst (λ (x : ℕ). has x (map (numberAt (b .stations)) (keepIf (λ k. leZ (availableAt (s .levels) k) (lowest (s .levels) (pathOf b r))) (pathOf b r))) ≡ true) (sym (numbers q))
-            (has-map (numberAt (b .stations)) q _ (has-keep _ q (pathOf b r) (rw (path-of b st t rs pa ri w i hi) (o .1))
-            (rw (path-of b st t rs pa ri w i hi, o .0, available-is b st t rs pa ri w i hi 0 (omega arith) f a sh bd q (on-path q (o .1))) (true-of ((≤ℤ-refl (pos (getD a q 0))) .le))))),
+      let o = lowest-is T q e in (
+        called-is T ∙ o .2,
+        subst (λ (x : ℕ). has x (map (numberAt (R .basin .stations)) (keepIf (λ k. leZ (availableAt (s .levels) k) (lowest (s .levels) (pathOf (R .basin) r))) (pathOf (R .basin) r))) ≡ true) (sym (numbers q))
+            (has-map (numberAt (R .basin .stations)) q _ (has-keep _ q (pathOf (R .basin) r) (rw (path-of R) (o .1))
+            (rw (path-of R, o .0, available-is T q (on-path q (o .1))) (true-of ((≤ℤ-refl (pos (getD (T .available) q 0))) .le))))),
       )
 
   -- what the code names, of a right that looks down its path
-  pub record Named (k : Kind) (y : why.Reason) : Type 0 where
-    pub number : whyOf y ≡ reasonNumber (shortage k (called b r s))
-    pub station : has (namedBy (homeOf b r) y) (controlling b r s (shortage k (called b r s))) ≡ true
+  pub record Named (k : rules.Kind) (y : ReasonMade) : Type 0 where
+    pub number : whyOf y ≡ reasonNumber (shortage k (called (R .basin) r s))
+    pub station : has (namedBy (homeOf (R .basin) r) y) (controlling (R .basin) r s (shortage k (called (R .basin) r s))) ≡ true
 
-  looks : (k : Kind) → (shortage k true ≡ calledOut) → (shortage k false ≡ riverLow) → lowRows (r .kind) b r s ≡ lowestOn (s .levels) (pathOf b r) → (y : Seen) → seenOn sh a row p ≡ y → Named k (grants.reasonOf st y)
+  looks : (k : rules.Kind) → (shortage k true ≡ calledOut) → (shortage k false ≡ riverLow) → lowRows (r .kind) (R .basin) r s ≡ lowestOn (s .levels) (pathOf (R .basin) r) → (y : Seen) → seenOn (T .short) (T .available) (theRow R) p ≡ y → Named k (grants.reasonOf (R .stations) y)
   unfolding grants.reasonOf whyOf namedBy reasonNumber
   looks k c l lo (seen.Called q) e =
       let o = called-named q e in
       record { number = rw (o .0, c); station = rw (o .0, c) (o .1) }
   looks k c l lo (seen.Low q) e =
       let o = low-here q e in
-      record { number = rw (o .0, l); station = rw (o .0, l) (low-is b r s _ (rw lo (o .1))) }
+      record { number = rw (o .0, l); station = rw (o .0, l) (low-is (R .basin) r s _ (rw lo (o .1))) }
 
-  lows-direct : lowRows direct b r s ≡ lowestOn (s .levels) (pathOf b r)
+  lows-direct : lowRows direct (R .basin) r s ≡ lowestOn (s .levels) (pathOf (R .basin) r)
   unfolding lowRows
   lows-direct = refl
 
-  lows-storage : lowRows storage b r s ≡ lowestOn (s .levels) (pathOf b r)
+  lows-storage : lowRows storage (R .basin) r s ≡ lowestOn (s .levels) (pathOf (R .basin) r)
   unfolding lowRows
   lows-storage = refl
 
-  -- an instream right names its own row
-  own-row : has (numberAt (stationsOf st) row) (map (numberAt (b .stations)) (lowRows instream b r s)) ≡ true
+  -- an instream right names its own (theRow R)
+  own-row : has (numberAt (stationsOf (R .stations)) (theRow R)) (map (numberAt (R .basin .stations)) (lowRows instream (R .basin) r s)) ≡ true
   unfolding lowRows
-  own-row = has-head _ _ [] (numbers row ∙ ap (numberAt (b .stations)) (sym (row-is b st t rs pa ri w i hi)))
+  own-row = has-head _ _ [] (numbers (theRow R) ∙ ap (numberAt (R .basin .stations)) (sym (row-is R)))
 
-  instream-named : r .kind ≡ instream → Named instream (grants.reasonOf st (seen.Low row))
+  instream-named : r .kind ≡ instream → Named instream (grants.reasonOf (R .stations) (seen.Low (theRow R)))
   unfolding grants.reasonOf whyOf namedBy reasonNumber shortage
-  instream-named z = record { number = refl; station = low-is b r s _ (subst (λ (k : Kind). has (numberAt (stationsOf st) row) (map (numberAt (b .stations)) (lowRows k b r s)) ≡ true) (sym z) own-row) }
+  instream-named z = record { number = refl; station = low-is (R .basin) r s _ (subst (λ (k : rules.Kind). has (numberAt (stationsOf (R .stations)) (theRow R)) (map (numberAt (R .basin .stations)) (lowRows k (R .basin) r s)) ≡ true) (sym z) own-row) }
 
   storage-named : Named project StorageOut
   unfolding whyOf namedBy reasonNumber shortage controlling
   storage-named = record { number = refl; station = has-head _ _ [] refl }
 
-  direct-named : r .kind ≡ direct → Named direct (grants.reasonOf st (seenOn sh a row p))
+  direct-named : r .kind ≡ direct → Named direct (grants.reasonOf (R .stations) (seenOn (T .short) (T .available) (theRow R) p))
   unfolding shortage
-  direct-named z = looks direct refl refl (subst (λ (k : Kind). lowRows k b r s ≡ lowestOn (s .levels) (pathOf b r)) (sym z) lows-direct) (seenOn sh a row p) refl
+  direct-named z = looks direct refl refl (subst (λ (k : rules.Kind). lowRows k (R .basin) r s ≡ lowestOn (s .levels) (pathOf (R .basin) r)) (sym z) lows-direct) (seenOn (T .short) (T .available) (theRow R) p) refl
 
-  stored-named : r .kind ≡ storage → Named storage (grants.reasonOf st (seenOn sh a row p))
+  stored-named : r .kind ≡ storage → Named storage (grants.reasonOf (R .stations) (seenOn (T .short) (T .available) (theRow R) p))
   unfolding shortage
-  stored-named z = looks storage refl refl (subst (λ (k : Kind). lowRows k b r s ≡ lowestOn (s .levels) (pathOf b r)) (sym z) lows-storage) (seenOn sh a row p) refl
+  stored-named z = looks storage refl refl (subst (λ (k : rules.Kind). lowRows k (R .basin) r s ≡ lowestOn (s .levels) (pathOf (R .basin) r)) (sym z) lows-storage) (seenOn (T .short) (T .available) (theRow R) p) refl
 
-  abbrev theReason : why.Reason
-  theReason = shortReason kb (grants.reasonOf st (seenBy t a sh kb row))
+  abbrev theReason : ReasonMade
+  theReason = shortReason (theKind R) (grants.reasonOf (R .stations) (seenBy (theKind R) (R .table) (T .available) (T .short) (theRow R)))
+
+  named : (k : Kind) → r .kind ≡ kindOf k → Named (kindOf k) (shortReason k (grants.reasonOf (R .stations) (seenBy k (R .table) (T .available) (T .short) (theRow R))))
+  named Direct z = direct-named z
+  named Project z = storage-named
+  named Instream z = instream-named z
+  named Storage z = stored-named z
 
   pub short-named : Named (r .kind) theReason
-  short-named = subst (λ (k : Kind). Named k theReason) (sym (kind-is b st t rs pa ri w i hi)) (by-kind kb (λ k. r .kind ≡ k → Named k theReason)
-      (λ e z. rw e (direct-named z))
-      (λ e z. rw e storage-named)
-      (λ e z. rw e (instream-named z))
-      (λ x y u z. rw (eqb-other kb 2 y, eqb-other kb 3 u) (stored-named z))
-      (kind-is b st t rs pa ri w i hi))
+  short-named = let e = kind-is R in subst (λ (k : rules.Kind). Named k theReason) (sym e) (named (theKind R) e)
 
   -- ---- the grant
 
-  module _ (m : ℕ) (ask d x : ℕ) (s₁ s₂ : State) (v : RiverPart) (gave : RiverGave st t a sh kb row ask v) (ev : v .part ≡ d)
-      (ea : ask ≡ demand (r .kind) b m i r s) (ed : d ≡ riverPart (r .kind) b r s ask) (e₁ : s₁ ≡ riverStage (r .kind) b i r d s)
-      (ex : x ≡ storagePart (r .kind) r s₁ (ask - d)) (e₂ : s₂ ≡ storageStage (r .kind) b r x s₁) where
+  module _ (g : Staged (R .basin) (T .month) (R .place) r s) (v : RiverPart) (gave : RiverGave (R .stations) (R .table) (T .available) (T .short) (theKind R) (theRow R) (g .ask) v) (ev : v .part ≡ g .part) where
+    abbrev why : ReasonMade
+    why = shortReason (theKind R) (v .reason)
+
     abbrev pub made : program.Grant
-    made = record { «from_river» = d; «from_storage» = x; reason = cond (ltb (d + x) ask) (shortReason kb (v .reason)) Met }
+    made = record { «from_river» = g .part; «from_storage» = g .drawn; reason = cond (ltb (g .part + g .drawn) (g .ask)) why Met }
 
-    abbrev g : Grant
-    g = (turn b m i r s) .grant
-
-    why-is : (c : Bool) → ltb (d + x) ask ≡ c → (whyOf (cond c (shortReason kb (v .reason)) Met) ≡ reasonNumber (reasonOf b r s c)) × (has (namedBy (homeOf b r) (cond c (shortReason kb (v .reason)) Met)) (controlling b r s (reasonOf b r s c)) ≡ true)
+    why-is : (c : Bool) → ltb (g .part + g .drawn) (g .ask) ≡ c → (whyOf (cond c why Met) ≡ reasonNumber (reasonOf (R .basin) r s c)) × (has (namedBy (homeOf (R .basin) r) (cond c why Met)) (controlling (R .basin) r s (reasonOf (R .basin) r s c)) ≡ true)
     unfolding reasonOf
     why-is true z =
-        let l : d + x < ask = lt-of z in
-        let e : v .reason ≡ grants.reasonOf st (seenBy t a sh kb row) = gave .reason (omega (arith, ev)) in
+        let l : g .part + g .drawn < g .ask = lt-of z in
+        let e : v .reason ≡ grants.reasonOf (R .stations) (seenBy (theKind R) (R .table) (T .available) (T .short) (theRow R)) = gave .reason (omega (arith, ev)) in
         let n : Named (r .kind) theReason = short-named in
         (rw e (n .number), rw e (n .station))
     why-is false z = (none-met, zero-named)
 
-    pub tells : Tells g (homeOf b r) made
+    pub tells : Tells ((turn (R .basin) (T .month) (R .place) r s) .grant) (homeOf (R .basin) r) made
     tells =
-        let y = why-is (ltb (d + x) ask) refl in
+        let y = why-is (ltb (g .part + g .drawn) (g .ask)) refl in
         record {
-          from-river = sym (turn-river b m i r s ask d x s₁ s₂ ea ed e₁ ex e₂);
-          from-storage = sym (turn-storage b m i r s ask d x s₁ s₂ ea ed e₁ ex e₂);
-          reason = y .0 ∙ ap reasonNumber (sym (turn-reason b m i r s ask d x s₁ s₂ ea ed e₁ ex e₂));
-          station = subst (λ (l : List ℕ). has (namedBy (homeOf b r) (cond (ltb (d + x) ask) (shortReason kb (v .reason)) Met)) l ≡ true) (sym (turn-stations b m i r s ask d x s₁ s₂ ea ed e₁ ex e₂)) (y .1);
+          from-river = sym (turn-river (R .basin) (T .month) (R .place) r s g);
+          from-storage = sym (turn-storage (R .basin) (T .month) (R .place) r s g);
+          reason = y .0 ∙ ap reasonNumber (sym (turn-reason (R .basin) (T .month) (R .place) r s g));
+          station = subst (λ (l : List ℕ). has (namedBy (homeOf (R .basin) r) (made .reason)) l ≡ true) (sym (turn-stations (R .basin) (T .month) (R .place) r s g)) (y .1);
         }

@@ -1,27 +1,30 @@
 -- All rights of a month in list order: the lines of the report, and what the arrays hold after them.
 use mathlib.Core.Bool.{Bool, true, cond}
-use mathlib.Core.List.{List, []}
+use mathlib.Core.List.{List}
 use mathlib.Core.Path.{_≡_}
 use Prim.Native.Nat.{ℕ, suc, _+_, _*_, _≤_, _<_}
 use lib.Dec.{eqb}
 use lib.ListN.{length, getD, set, drop}
 use Rattle.general.specs.Tests.{has}
+use Rattle.places.specs.Board.{monthAt, dueAt, BoardOk}
+use Rattle.places.specs.Report.{fromRiverPlace, fromStoragePlace, reasonPlace, stationPlace, linesEnd}
 use Rattle.rules.specs.Basin.{Basin, rows}
-use Rattle.rules.specs.Turn.{State, Grant, met, numberAt, Turn}
-use Rattle.rules.specs.Month.{turns, afterTurns, grantsOf, returnsAt, reasonNumber, shortCount}
+use Rattle.rules.specs.Turn.{State, Grant, numberAt, Turn}
+use Rattle.rules.specs.Month.{turns, afterTurns, grantAt, returnsAt, reasonNumber, shortCount}
 use Rattle.records.specs.Records.{stationsOf, rowsOf, reservoirCount, rightCount, rightOf}
 use Rattle.grants.specs.declared.grants.Grant as program
 use Rattle.grants.specs.declared.grants.Reason.{Reason}
-use Rattle.returns.specs.Dues.{mostAmount}
-use Rattle.returns.specs.Returning.{dueIn, RiverOk, BoardOk}
+use Rattle.turns.specs.declared.lines.Totals.{Totals}
+use Rattle.rules.specs.Accepted.{mostAmount}
+use Rattle.river.specs.Arrays.{RiverOk}
 use Rattle.grants.specs.Stages.{homeRow}
 use Rattle.turns.specs.State.{stateOf, Setting, Within, Ready, Kept, Turned, whyOf, namedBy, homeOf}
 
 -- ---- one line
 
 -- the station of reservoir v
-abbrev pub homeNumber : List ℕ → List ℕ → ℕ → ℕ
-homeNumber st rs v = numberAt (stationsOf st) (homeRow rs v)
+abbrev pub reservoirStation : List ℕ → List ℕ → ℕ → ℕ
+reservoirStation st rs v = numberAt (stationsOf st) (homeRow rs v)
 
 -- where a reason needs the reservoir's station, there is one
 abbrev pub CanName : List ℕ → List ℕ → ℕ → Reason → Type 0
@@ -29,7 +32,7 @@ CanName st rs v why = whyOf why ≡ 3 → (v < reservoirCount rs) × (homeRow rs
 
 unfoldable pub lineOf : List ℕ → ℕ → program.Grant → ℕ → List ℕ
 lineOf report k g station =
-    set (set (set (set report (4 * k) (g .«from_river»)) (4 * k + 1) (g .«from_storage»)) (4 * k + 2) (whyOf (g .reason))) (4 * k + 3) station
+    set (set (set (set report (fromRiverPlace k) (g .«from_river»)) (fromStoragePlace k) (g .«from_storage»)) (reasonPlace k) (whyOf (g .reason))) (stationPlace k) station
 
 -- 1 for a short right
 abbrev pub shortOne : program.Grant → ℕ
@@ -38,28 +41,22 @@ shortOne g = cond (eqb (whyOf (g .reason)) 0) 0 1
 -- a turn with its line in the report
 pub record CanLine (st t rs : List ℕ) (pa : List (List ℕ)) (ri : List ℕ) (i m : ℕ) (f a : List ℕ) (sh : List Bool) (bd rp : List ℕ) : Type 0 where
   pub ready : Ready st t rs pa ri i m f a sh bd
-  pub line : 4 * i + 4 ≤ length rp
+  pub line : stationPlace i < length rp
 
-pub record LineServed (b : Basin) (ri : List ℕ) (i m : ℕ) (f a : List ℕ) (sh : List Bool) (bd rp f′ a′ : List ℕ) (sh′ : List Bool) (bd′ rp′ : List ℕ) (c : ℕ) : Type 0 where
+pub record LineServed (b : Basin) (ri : List ℕ) (i m : ℕ) (f a : List ℕ) (sh : List Bool) (bd rp f′ a′ : List ℕ) (sh′ : List Bool) (bd′ rp′ : List ℕ) (c : Totals) : Type 0 where
   pub made : program.Grant
   pub turned : Turned b ri i m f a sh bd f′ a′ sh′ bd′ made
   pub written : rp′ ≡ lineOf rp i made (namedBy (homeOf b (rightOf ri i)) (made .reason))
-  pub short : c ≡ shortOne made
+  pub short : c .shorts ≡ shortOne made
 
 -- ---- the lines of the first k rights
 
-abbrev pub noGrant : Grant
-noGrant = record { fromRiver = 0; fromStorage = 0; reason = met; stations = [] }
-
-abbrev pub grantAt : List Turn → ℕ → Grant
-grantAt ts k = getD (grantsOf ts) k noGrant
-
 pub record LinesTo (ts : List Turn) (k : ℕ) (before after : List ℕ) : Type 0 where
-  pub from-river : (j : ℕ) → j < k → getD after (4 * j) 0 ≡ (grantAt ts j) .fromRiver
-  pub from-storage : (j : ℕ) → j < k → getD after (4 * j + 1) 0 ≡ (grantAt ts j) .fromStorage
-  pub reason : (j : ℕ) → j < k → getD after (4 * j + 2) 0 ≡ reasonNumber ((grantAt ts j) .reason)
-  pub station : (j : ℕ) → j < k → has (getD after (4 * j + 3) 0) ((grantAt ts j) .stations) ≡ true
-  pub beyond : (p : ℕ) → 4 * k ≤ p → getD after p 0 ≡ getD before p 0
+  pub from-river : (j : ℕ) → j < k → getD after (fromRiverPlace j) 0 ≡ (grantAt ts j) .fromRiver
+  pub from-storage : (j : ℕ) → j < k → getD after (fromStoragePlace j) 0 ≡ (grantAt ts j) .fromStorage
+  pub reason : (j : ℕ) → j < k → getD after (reasonPlace j) 0 ≡ reasonNumber ((grantAt ts j) .reason)
+  pub station : (j : ℕ) → j < k → has (getD after (stationPlace j) 0) ((grantAt ts j) .stations) ≡ true
+  pub beyond : (p : ℕ) → linesEnd k ≤ p → getD after p 0 ≡ getD before p 0
   pub size : length after ≡ length before
 
 -- ---- all rights
@@ -76,16 +73,16 @@ pub record CanServe (st t rs : List ℕ) (pa : List (List ℕ)) (ri : List ℕ) 
   pub board : BoardOk bd 1000000000000000000
   pub marks : 64 ≤ length sh
   pub within : Within basin bd
-  pub lines : 4 * rightCount ri ≤ length rp
+  pub lines : linesEnd (rightCount ri) ≤ length rp
 
 -- k rights are served: what is left of the turns is what the rest of the rights make of the state that the arrays hold
-pub record ServedTo (b : Basin) (m k : ℕ) (f a : List ℕ) (sh : List Bool) (bd rp f′ a′ : List ℕ) (sh′ : List Bool) (bd′ rp′ : List ℕ) (c : ℕ) : Type 0 where
+pub record ServedTo (b : Basin) (m k : ℕ) (f a : List ℕ) (sh : List Bool) (bd rp f′ a′ : List ℕ) (sh′ : List Bool) (bd′ rp′ : List ℕ) (c : Totals) : Type 0 where
   pub left : drop k (turnsFrom b m (stateOf b f a sh bd)) ≡ turns b m k (drop k (b .rights)) (stateOf b f′ a′ sh′ bd′)
   pub state : afterTurns (turns b m k (drop k (b .rights)) (stateOf b f′ a′ sh′ bd′)) (stateOf b f′ a′ sh′ bd′) ≡ afterTurns (turnsFrom b m (stateOf b f a sh bd)) (stateOf b f a sh bd)
   pub dues : (w j : ℕ) → j < 11
-      → dueIn bd′ w j + returnsAt b (turns b m k (drop k (b .rights)) (stateOf b f′ a′ sh′ bd′)) w (suc j) ≡ dueIn bd w j + returnsAt b (turnsFrom b m (stateOf b f a sh bd)) w (suc j)
-  pub shorts : c + shortCount (turns b m k (drop k (b .rights)) (stateOf b f′ a′ sh′ bd′)) ≡ shortCount (turnsFrom b m (stateOf b f a sh bd))
-  pub month : getD bd′ 0 0 ≡ getD bd 0 0
+      → dueAt bd′ w (suc j) + returnsAt b (turns b m k (drop k (b .rights)) (stateOf b f′ a′ sh′ bd′)) w (suc j) ≡ dueAt bd w (suc j) + returnsAt b (turnsFrom b m (stateOf b f a sh bd)) w (suc j)
+  pub shorts : c .shorts + shortCount (turns b m k (drop k (b .rights)) (stateOf b f′ a′ sh′ bd′)) ≡ shortCount (turnsFrom b m (stateOf b f a sh bd))
+  pub month : monthAt bd′ ≡ monthAt bd
   pub lines : LinesTo (turnsFrom b m (stateOf b f a sh bd)) k rp rp′
   pub size : length bd′ ≡ length bd
   pub flow-size : length f′ ≡ length f
@@ -97,12 +94,12 @@ pub record ServedTo (b : Basin) (m k : ℕ) (f a : List ℕ) (sh : List Bool) (b
   pub capped : Within b bd′
   pub kept : Kept b bd bd′
 
--- all rights are served; c of them are short
-pub record Served (b : Basin) (m : ℕ) (f a : List ℕ) (sh : List Bool) (bd rp f′ a′ : List ℕ) (sh′ : List Bool) (bd′ rp′ : List ℕ) (c : ℕ) : Type 0 where
+-- all rights are served, with c in all
+pub record Served (b : Basin) (m : ℕ) (f a : List ℕ) (sh : List Bool) (bd rp f′ a′ : List ℕ) (sh′ : List Bool) (bd′ rp′ : List ℕ) (c : Totals) : Type 0 where
   pub state : stateOf b f′ a′ sh′ bd′ ≡ afterTurns (turnsFrom b m (stateOf b f a sh bd)) (stateOf b f a sh bd)
-  pub dues : (w j : ℕ) → j < 11 → dueIn bd′ w j ≡ dueIn bd w j + returnsAt b (turnsFrom b m (stateOf b f a sh bd)) w (suc j)
-  pub shorts : c ≡ shortCount (turnsFrom b m (stateOf b f a sh bd))
-  pub month : getD bd′ 0 0 ≡ getD bd 0 0
+  pub dues : (w j : ℕ) → j < 11 → dueAt bd′ w (suc j) ≡ dueAt bd w (suc j) + returnsAt b (turnsFrom b m (stateOf b f a sh bd)) w (suc j)
+  pub shorts : c .shorts ≡ shortCount (turnsFrom b m (stateOf b f a sh bd))
+  pub month : monthAt bd′ ≡ monthAt bd
   pub lines : LinesTo (turnsFrom b m (stateOf b f a sh bd)) (length (b .rights)) rp rp′
   pub size : length bd′ ≡ length bd
   pub flow-size : length f′ ≡ length f

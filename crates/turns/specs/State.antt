@@ -5,31 +5,30 @@ use mathlib.Core.Path.{_≡_}
 use Prim.Native.Nat.{ℕ, suc, _+_, _-_, _*_, _^_, _≤_, _<_}
 use lib.ListN.{length, getD}
 use Rattle.general.specs.Tables.{tab}
-use Rattle.general.specs.Tests.{has}
+use Rattle.general.specs.Tests.{has, bit}
+use Rattle.places.specs.Board.{monthAt, storageAt, marksAt, takenAt, dueAt, BoardOk}
 use Rattle.rules.specs.Basin.{Basin, Right, rows, reservoirAt, rightAt, patternOf}
 use Rattle.rules.specs.Returns.{partsOf, returnedAt}
-use Rattle.rules.specs.Turn.{State, bit, Grant, granted, Turn, turn}
+use Rattle.rules.specs.Turn.{State, Grant, granted, Turn, turn}
 use Rattle.rules.specs.Month.{reasonNumber}
-use Rattle.rules.specs.Accepted.{Accepted}
+use Rattle.rules.specs.Accepted.{Accepted, mostAmount}
 use Rattle.records.specs.Records.{stationsOf, reservoirsOf, rightsOf, rightCount, rightOf}
 use Rattle.records.specs.Table.{tableOf}
-use Rattle.river.specs.Arrays.{levelsOf}
+use Rattle.river.specs.Arrays.{levelsOf, RiverOk}
 use Rattle.grants.specs.declared.grants.Grant.{Grant as GrantMade}
 use Rattle.grants.specs.declared.grants.Reason.{Reason}
 use Rattle.grants.specs.declared.grants.Reason.the-variants.{Met, Called, RiverLow, StorageOut}
-use Rattle.returns.specs.Dues.{mostAmount}
-use Rattle.returns.specs.Returning.{dueIn, RiverOk, BoardOk}
 
 -- ---- the state that the arrays hold
 
 unfoldable pub storagesOf : ℕ → List ℕ → List ℕ
-storagesOf n bd = tab n (λ v. getD bd (1 + v) 0)
+storagesOf n bd = tab n (λ v. storageAt bd v)
 
 unfoldable pub marksOf : ℕ → List ℕ → List Bool
-marksOf n bd = tab n (bit (getD bd 9 0))
+marksOf n bd = tab n (bit (marksAt bd))
 
 unfoldable pub takenOf : ℕ → List ℕ → List ℕ
-takenOf n bd = tab n (λ i. getD bd (10 + i) 0)
+takenOf n bd = tab n (λ i. takenAt bd i)
 
 unfoldable pub shortOf : ℕ → List Bool → List Bool
 shortOf n sh = tab n (λ w. getD sh w false)
@@ -56,8 +55,8 @@ pub record Setting (b : Basin) (st t rs : List ℕ) (pa : List (List ℕ)) (ri :
 
 -- storages within capacities and water taken within limits, at the board
 pub record Within (b : Basin) (bd : List ℕ) : Type 0 where
-  pub storages : (v : ℕ) → v < length (b .reservoirs) → getD bd (1 + v) 0 ≤ (reservoirAt b v) .capacity
-  pub taken : (i : ℕ) → i < length (b .rights) → getD bd (10 + i) 0 ≤ (rightAt b i) .limit
+  pub storages : (v : ℕ) → v < length (b .reservoirs) → storageAt bd v ≤ (reservoirAt b v) .capacity
+  pub taken : (i : ℕ) → i < length (b .rights) → takenAt bd i ≤ (rightAt b i) .limit
 
 -- ---- what a turn asks for
 
@@ -99,16 +98,16 @@ homeOf b r = Rattle.rules.specs.Turn.numberAt (b .stations) ((Rattle.rules.spe
 
 -- What no turn changes: places without a reservoir or a right; and a word of marks names only reservoirs that exist.
 pub record Kept (b : Basin) (bd bd′ : List ℕ) : Type 0 where
-  pub no-reservoir : (v : ℕ) → length (b .reservoirs) ≤ v → v < 8 → getD bd′ (1 + v) 0 ≡ getD bd (1 + v) 0
-  pub no-right : (i : ℕ) → length (b .rights) ≤ i → i < 256 → getD bd′ (10 + i) 0 ≡ getD bd (10 + i) 0
-  pub marks : getD bd 9 0 < 2 ^ length (b .reservoirs) → getD bd′ 9 0 < 2 ^ length (b .reservoirs)
+  pub no-reservoir : (v : ℕ) → length (b .reservoirs) ≤ v → v < 8 → storageAt bd′ v ≡ storageAt bd v
+  pub no-right : (i : ℕ) → length (b .rights) ≤ i → i < 256 → takenAt bd′ i ≡ takenAt bd i
+  pub marks : marksAt bd < 2 ^ length (b .reservoirs) → marksAt bd′ < 2 ^ length (b .reservoirs)
 
 pub record Turned (b : Basin) (ri : List ℕ) (i m : ℕ) (f a : List ℕ) (sh : List Bool) (bd f′ a′ : List ℕ) (sh′ : List Bool) (bd′ : List ℕ) (made : GrantMade) : Type 0 where
   pub state : stateOf b f′ a′ sh′ bd′ ≡ (turn b m i (rightOf ri i) (stateOf b f a sh bd)) .after-returns
   pub tells : Tells ((turn b m i (rightOf ri i) (stateOf b f a sh bd)) .grant) (homeOf b (rightOf ri i)) made
   pub dues : (w k : ℕ) → k < 11
-      → dueIn bd′ w k ≡ dueIn bd w k + returnedAt (patternOf b (rightOf ri i)) w (suc k) (partsOf ((rightOf ri i) .kind) (rightOf ri i) (granted ((turn b m i (rightOf ri i) (stateOf b f a sh bd)) .grant)))
-  pub month : getD bd′ 0 0 ≡ getD bd 0 0
+      → dueAt bd′ w (suc k) ≡ dueAt bd w (suc k) + returnedAt (patternOf b (rightOf ri i)) w (suc k) (partsOf ((rightOf ri i) .kind) (rightOf ri i) (granted ((turn b m i (rightOf ri i) (stateOf b f a sh bd)) .grant)))
+  pub month : monthAt bd′ ≡ monthAt bd
   pub size : length bd′ ≡ length bd
   pub flow-size : length f′ ≡ length f
   pub available-size : length a′ ≡ length a

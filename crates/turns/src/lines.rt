@@ -1,20 +1,31 @@
 // All rights of a month in list order, each with its line in the report.
 ghost use mathlib.Core.Path.{_≡_};
-ghost use Prim.Native.Nat.{_+_, _*_, _≤_, _<_};
+ghost use Prim.Native.Nat.{_+_, _<_};
 ghost use lib.ListN.{length};
+ghost use Rattle.places.specs.Report.{stationPlace};
 ghost use Rattle.rules.specs.Basin.{Basin};
-ghost use Rattle.records.specs.Records.{rowsOf, reservoirCount, rightCount};
-ghost use Rattle.turns.specs.Lines.{homeNumber, CanName, lineOf, shortOne, CanLine, LineServed, CanServe, Served};
+ghost use Rattle.records.specs.Records.{rowsOf, reservoirCount};
+ghost use Rattle.turns.specs.Lines.{reservoirStation, CanName, lineOf, shortOne, CanLine, LineServed, CanServe, Served};
 ghost use Rattle.grants.specs.Stages.{homeRow};
 ghost use Rattle.turns.specs.State.{whyOf, namedBy, Setting};
+use crate::serve::Turn;
 use crate::serve::serve_right;
 use grants::grants::Grant;
 use grants::grants::Reason;
 use grants::grants::station_number;
-use layout::bytes::index;
+use numbers::index;
+use numbers::wide32;
+use places::report::FROM_STORAGE;
+use places::report::REASON;
+use places::report::STATION;
+use places::report::line_place;
 use records::reservoirs::reservoir_at;
 use records::rights::right_at;
-use returns::numbers::wide32;
+
+// What the service of rights amounts to: how many are short.
+pub struct Totals {
+    pub shorts: usize,
+}
 
 // 01's number for a reason.
 fn why(reason: Reason) -> u64
@@ -29,62 +40,63 @@ fn why(reason: Reason) -> u64
 }
 
 // The station of reservoir v.
-fn home_number(stations: &[u8], reservoirs: &[u8], v: usize) -> u64
+fn reservoir_station(stations: &[u8], reservoirs: &[u8], v: usize) -> u64
     requires { ⌜ (v < reservoirCount (now reservoirs)) × (homeRow (now reservoirs) v < rowsOf (now stations)) ⌝ }
-    ensures { λ r. ⌜ r ≡ homeNumber (now (stations .entry)) (now (reservoirs .entry)) v ⌝ }
+    ensures { λ r. ⌜ r ≡ reservoirStation (now (stations .entry)) (now (reservoirs .entry)) v ⌝ }
 {
-    let lake = reservoir_at(reservoirs, v);
-    wide32(station_number(stations, index(lake.row)))
+    let reservoir = reservoir_at(reservoirs, v);
+    wide32(station_number(stations, index(reservoir.row)))
 }
 
 // The station that a reason names; that of the right's reservoir v where its storage gave out.
 fn name(stations: &[u8], reservoirs: &[u8], v: usize, reason: Reason) -> u64
     requires { ⌜ CanName (now stations) (now reservoirs) v reason ⌝ }
-    ensures { λ r. ⌜ r ≡ namedBy (homeNumber (now (stations .entry)) (now (reservoirs .entry)) v) reason ⌝ }
+    ensures { λ r. ⌜ r ≡ namedBy (reservoirStation (now (stations .entry)) (now (reservoirs .entry)) v) reason ⌝ }
 {
     match reason {
         Reason::Met => 0,
         Reason::Called(s) => wide32(s),
         Reason::RiverLow(s) => wide32(s),
-        Reason::StorageOut => home_number(stations, reservoirs, v),
+        Reason::StorageOut => reservoir_station(stations, reservoirs, v),
     }
 }
 
 // The line of right i. Answers 1 for a right that is short.
 fn put_line(report: &mut [u64], i: usize, grant: Grant, station: u64) -> usize
-    requires { ⌜ (i < 256) × (4 * i + 4 ≤ length (now report)) ⌝ }
+    requires { ⌜ (i < 256) × (stationPlace i < length (now report)) ⌝ }
     ensures { λ c. ⌜ (c ≡ shortOne grant) × (now (report .exit) ≡ lineOf (now (report .entry)) i grant station) ⌝ }
 {
     let told = grant.reason;
     let reason = why(told);
-    report[4 * i] = grant.from_river;
-    report[4 * i + 1] = grant.from_storage;
-    report[4 * i + 2] = reason;
-    report[4 * i + 3] = station;
+    let line = line_place(i);
+    report[line] = grant.from_river;
+    report[line + FROM_STORAGE] = grant.from_storage;
+    report[line + REASON] = reason;
+    report[line + STATION] = station;
     if reason == 0 {
         return 0;
     }
     1
 }
 
-// The turn of right i with its line in the report. Answers 1 for a right that is short.
+// A turn with its line in the report.
 fn serve_line(
     stations: &[u8],
     below: &[u8; 64],
     reservoirs: &[u8],
-    patterns: [[u8; 12]; 16],
+    patterns: &[[u8; 12]; 16],
     rights: &[u8],
-    i: usize,
-    m: usize,
+    turn: Turn,
     flow: &mut [u64; 64],
     available: &mut [u64; 64],
     short: &mut [bool; 64],
     board: &mut [u64],
     report: &mut [u64],
-) -> usize
-    requires { ⌜ CanLine (now stations) (now below) (now reservoirs) patterns (now rights) i m (now flow) (now available) (now short) (now board) (now report) ⌝ }
-    ensures { λ c. ⌜ ((b : Basin) → Setting b (now (stations .entry)) (now (below .entry)) (now (reservoirs .entry)) patterns (now (rights .entry)) → LineServed b (now (rights .entry)) i m (now (flow .entry)) (now (available .entry)) (now (short .entry)) (now (board .entry)) (now (report .entry)) (now (flow .exit)) (now (available .exit)) (now (short .exit)) (now (board .exit)) (now (report .exit)) c) ⌝ }
+) -> Totals
+    requires { ⌜ CanLine (now stations) (now below) (now reservoirs) (now patterns) (now rights) (turn .right) (turn .month) (now flow) (now available) (now short) (now board) (now report) ⌝ }
+    ensures { λ c. ⌜ ((b : Basin) → Setting b (now (stations .entry)) (now (below .entry)) (now (reservoirs .entry)) (now (patterns .entry)) (now (rights .entry)) → LineServed b (now (rights .entry)) (turn .right) (turn .month) (now (flow .entry)) (now (available .entry)) (now (short .entry)) (now (board .entry)) (now (report .entry)) (now (flow .exit)) (now (available .exit)) (now (short .exit)) (now (board .exit)) (now (report .exit)) c) ⌝ }
 {
+    let i = turn.right;
     let right = right_at(rights, i);
     let grant = serve_right(
         stations,
@@ -92,8 +104,7 @@ fn serve_line(
         reservoirs,
         patterns,
         rights,
-        i,
-        m,
+        turn,
         flow,
         available,
         short,
@@ -101,10 +112,12 @@ fn serve_line(
     );
     let reason = grant.reason;
     let station = name(stations, reservoirs, index(right.reservoir), reason);
-    put_line(report, i, grant, station)
+    Totals {
+        shorts: put_line(report, i, grant, station),
+    }
 }
 
-// All rights in list order. Answers how many are short.
+// All rights in list order.
 pub fn serve_all(
     stations: &[u8],
     below: &[u8; 64],
@@ -117,27 +130,28 @@ pub fn serve_all(
     short: &mut [bool; 64],
     board: &mut [u64],
     report: &mut [u64],
-) -> usize
+) -> Totals
     requires { ⌜ CanServe (now stations) (now below) (now reservoirs) patterns (now rights) m (now flow) (now available) (now short) (now board) (now report) ⌝ }
     ensures { λ c. ⌜ ((b : Basin) → Setting b (now (stations .entry)) (now (below .entry)) (now (reservoirs .entry)) patterns (now (rights .entry)) → Served b m (now (flow .entry)) (now (available .entry)) (now (short .entry)) (now (board .entry)) (now (report .entry)) (now (flow .exit)) (now (available .exit)) (now (short .exit)) (now (board .exit)) (now (report .exit)) c) ⌝ }
 {
     let n = rights.len() / 76;
     let mut shorts = 0;
     for i in 0..n {
-        shorts += serve_line(
+        let turn = Turn { right: i, month: m };
+        let line = serve_line(
             stations,
             below,
             reservoirs,
-            patterns,
+            &patterns,
             rights,
-            i,
-            m,
+            turn,
             flow,
             available,
             short,
             board,
             report,
         );
+        shorts += line.shorts;
     }
-    shorts
+    Totals { shorts }
 }

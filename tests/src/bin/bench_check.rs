@@ -18,7 +18,7 @@ fn main() {
 }
 
 fn bench(name: &str, file: &[u8]) {
-    let native = |file: &[u8]| ffi::check_number(file);
+    let native = |file: &[u8]| ffi::check(file) as u64;
     let plain = |file: &[u8]| engine::check(file).0;
     assert_eq!(native(file), 0, "the library refuses the {name} file");
     assert_eq!(plain(file), 0);
@@ -34,7 +34,7 @@ fn bench(name: &str, file: &[u8]) {
 }
 
 /// Nanoseconds per call over one round.
-fn round(calls: u32, file: &[u8], check: impl Fn(&[u8]) -> u32) -> f64 {
+fn round(calls: u32, file: &[u8], check: impl Fn(&[u8]) -> u64) -> f64 {
     let start = Instant::now();
     for _ in 0..calls {
         black_box(check(black_box(file)));

@@ -4,6 +4,7 @@
 
 use river_tests::engine::board::BOARD;
 use river_tests::engine::records::Basin;
+use river_tests::engine::report;
 use river_tests::generate::{largest, sheet, straight, Rng};
 use river_tests::{engine, examples, ffi};
 use std::hint::black_box;
@@ -66,7 +67,7 @@ struct Job {
     report: Vec<u64>,
 }
 
-type MonthCall = fn(&[u8], &[u32], &mut [u64], &mut [u64]) -> (u32, u32);
+type MonthCall = fn(&[u8], &[u32], &mut [u64], &mut [u64]) -> engine::Answer;
 
 impl Job {
     fn new(basin: &Basin, tenths: u64) -> Job {
@@ -84,7 +85,7 @@ impl Job {
     }
 
     /// Runs the months once, from the fresh board; answers how many rights were short.
-    fn run(&mut self, month: MonthCall) -> u32 {
+    fn run(&mut self, month: MonthCall) -> u64 {
         self.board.copy_from_slice(&self.fresh);
         let mut short = 0;
         for sheet in &self.sheets {
@@ -99,7 +100,7 @@ impl Job {
 
     /// What is timed is the same work: answers, the last board and the last report, without
     /// the stations, which may be named freely.
-    fn assert_both_alike(&mut self) -> u32 {
+    fn assert_both_alike(&mut self) -> u64 {
         let native = (self.run(ffi::month), self.board.clone(), self.unnamed());
         let plain = (self.run(engine::month), self.board.clone(), self.unnamed());
         assert!(native == plain, "the engines differ");
@@ -108,7 +109,7 @@ impl Job {
 
     fn unnamed(&self) -> Vec<u64> {
         let mut report = self.report.clone();
-        (0..self.rights).for_each(|place| report[4 * place + 3] = 0);
+        (0..self.rights).for_each(|place| report[report::station(place)] = 0);
         report
     }
 

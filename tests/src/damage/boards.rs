@@ -1,7 +1,7 @@
 //! Boards that are not possible, each for one clause, and extreme ones that are.
 //! Places and limits are written out from 01, not taken from the engine.
 
-use super::{any_place, of_kind};
+use super::edits::{any_place, of_kind};
 use crate::engine::records::*;
 use crate::generate::Rng;
 

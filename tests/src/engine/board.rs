@@ -4,6 +4,7 @@ use super::check::{judge, Judged, Refusal};
 use super::network::Network;
 use super::records::*;
 use super::slip::{Slip, Telling};
+use super::Answer;
 
 /// Numbers on a board (01, The board and one month).
 pub const BOARD: usize = 970;
@@ -87,7 +88,7 @@ fn dues_fit<T: Telling>(telling: &T, dues: &[u64]) -> bool {
 
 /// The board on which a basin begins: the reservoirs hold what the file says, and
 /// nothing is marked, taken or due.
-pub fn fresh<T: Telling>(telling: &T, file: &[u8], board: &mut [u64]) -> (u32, u32) {
+pub fn fresh<T: Telling>(telling: &T, file: &[u8], board: &mut [u64]) -> Answer {
     let mut network = Network::room();
     let basin = match judge(telling, file, &mut network) {
         Ok(basin) => basin,
@@ -110,7 +111,7 @@ pub fn fresh<T: Telling>(telling: &T, file: &[u8], board: &mut [u64]) -> (u32, u
 /// Number and place, then what the reservoirs hold and what is due, both summed; a
 /// refused call sums nothing (01, Stock, and the C caller).
 pub fn stock<T: Telling>(telling: &T, file: &[u8], board: &[u64]) -> [u64; 4] {
-    let refused = |refusal: Refusal| [refusal.number as u64, refusal.place as u64, 0, 0];
+    let refused = |refusal: Refusal| [refusal.number, refusal.place, 0, 0];
     let mut network = Network::room();
     let basin = match judge(telling, file, &mut network) {
         Ok(basin) => basin,

@@ -6,16 +6,17 @@ use super::network::Network;
 use super::records::*;
 use super::sections::{find_sections, Sections};
 use super::slip::{Slip, Telling};
+use super::Answer;
 
 /// Number and place of what is turned down.
 #[derive(Clone, Copy, Debug, PartialEq, Eq)]
 pub struct Refusal {
-    pub number: u32,
-    pub place: u32,
+    pub number: u64,
+    pub place: u64,
 }
 
 impl Refusal {
-    pub fn answer(self) -> (u32, u32) {
+    pub fn answer(self) -> Answer {
         (self.number, self.place)
     }
 }
@@ -47,14 +48,14 @@ pub fn judge<'a, T: Telling>(
 #[inline(always)]
 fn refuse_first<T: Telling>(
     telling: &T,
-    number: u32,
+    number: u64,
     places: usize,
     mut at_fault: impl FnMut(usize) -> bool,
 ) -> Result<(), Refusal> {
     let mut last = None;
     for place in 0..places {
         if at_fault(place) {
-            let refusal = Refusal { number, place: place as u32 };
+            let refusal = Refusal { number, place: place as u64 };
             if !telling.slips(Slip::LastAtFault) {
                 return Err(refusal);
             }

@@ -11,6 +11,7 @@ pub mod check;
 pub mod month;
 pub mod network;
 pub mod records;
+pub mod report;
 pub mod sections;
 pub mod slip;
 pub mod split;
@@ -22,8 +23,12 @@ use network::Network;
 use records::{u32_at, RIGHT_BYTES, STATION_BYTES};
 use slip::Faithful;
 
+/// What a call answers, 64 bits each: the number and place of a refusal, or 0 and what
+/// the call counts.
+pub type Answer = (u64, u64);
+
 /// Number and place of what is wrong with a file; 0, 0 if nothing is.
-pub fn check(file: &[u8]) -> (u32, u32) {
+pub fn check(file: &[u8]) -> Answer {
     match judge(&Faithful, file, &mut Network::room()) {
         Ok(_) => (0, 0),
         Err(refusal) => refusal.answer(),
@@ -31,12 +36,12 @@ pub fn check(file: &[u8]) -> (u32, u32) {
 }
 
 /// Writes the board on which a basin begins.
-pub fn fresh(file: &[u8], board: &mut [u64]) -> (u32, u32) {
+pub fn fresh(file: &[u8], board: &mut [u64]) -> Answer {
     board::fresh(&Faithful, file, board)
 }
 
 /// Runs one month. Answers 0 and the number of rights short, or a refusal.
-pub fn month(file: &[u8], runoff: &[u32], board: &mut [u64], report: &mut [u64]) -> (u32, u32) {
+pub fn month(file: &[u8], runoff: &[u32], board: &mut [u64], report: &mut [u64]) -> Answer {
     month::month(&Faithful, &mut NoWitness, file, runoff, board, report)
 }
 
@@ -47,7 +52,7 @@ pub fn month_allowed(
     runoff: &[u32],
     board: &mut [u64],
     report: &mut [u64],
-) -> ((u32, u32), Vec<Vec<u32>>) {
+) -> (Answer, Vec<Vec<u32>>) {
     let mut allowed = AllowedRows(vec![0; file.len() / RIGHT_BYTES]);
     let answer = month::month(&Faithful, &mut allowed, file, runoff, board, report);
     let mut network = Network::room();

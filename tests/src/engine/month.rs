@@ -9,8 +9,10 @@ use super::board::*;
 use super::check::{judge, Judged};
 use super::network::Network;
 use super::records::*;
+use super::report;
 use super::slip::{Slip, Telling};
 use super::split::area;
+use super::Answer;
 
 mod reasons;
 mod refusals;
@@ -44,7 +46,7 @@ pub fn month<T: Telling, W: Witness>(
     runoff: &[u32],
     board: &mut [u64],
     report: &mut [u64],
-) -> (u32, u32) {
+) -> Answer {
     let mut network = Network::room();
     let basin = match judge(telling, file, &mut network) {
         Ok(basin) => basin,
@@ -62,7 +64,7 @@ pub fn month_on<T: Telling, W: Witness>(
     runoff: &[u32],
     board: &mut [u64],
     report: &mut [u64],
-) -> (u32, u32) {
+) -> Answer {
     if let Err(refusal) = refusals::judge_call(telling, basin, runoff, board, report) {
         return refusal.answer();
     }
@@ -73,10 +75,10 @@ pub fn month_on<T: Telling, W: Witness>(
     for (place, record) in basin.sections.rights.iter().enumerate() {
         let right = Right::decode(record);
         let (grant, reason, station) = month.serve(place, &right, witness);
-        report[4 * place] = grant.from_river as u64;
-        report[4 * place + 1] = grant.from_storage as u64;
-        report[4 * place + 2] = reason;
-        report[4 * place + 3] = station;
+        report[report::from_river(place)] = grant.from_river as u64;
+        report[report::from_storage(place)] = grant.from_storage as u64;
+        report[report::reason(place)] = reason;
+        report[report::station(place)] = station;
     }
     if telling.slips(Slip::ReturnUsedBySenior) {
         month.serve_seniors_again(report);
@@ -132,7 +134,7 @@ struct Month<'a, T> {
     short_rows: u64,
     /// Rows of all rights already served; only for slips.
     served_rows: u64,
-    shorts: u32,
+    shorts: u64,
 }
 
 impl<'a, T: Telling> Month<'a, T> {
@@ -227,22 +229,22 @@ impl<'a, T: Telling> Month<'a, T> {
 
     /// Flow and available flow of every row, after the last right.
     fn report_rows(&self, report: &mut [u64]) {
-        let start = 4 * self.basin.sections.rights.len();
+        let rights = self.basin.sections.rights.len();
         let rows = self.rows();
         for row in 0..rows {
             if self.slips(Slip::FlowsThenAvailable) {
-                report[start + row] = self.flow[row] as u64;
-                report[start + rows + row] = self.available[row] as u64;
+                report[report::flow(rights, 0) + row] = self.flow[row] as u64;
+                report[report::flow(rights, 0) + rows + row] = self.available[row] as u64;
             } else {
-                report[start + 2 * row] = self.flow[row] as u64;
-                report[start + 2 * row + 1] = self.available[row] as u64;
+                report[report::flow(rights, row)] = self.flow[row] as u64;
+                report[report::available(rights, row)] = self.available[row] as u64;
             }
         }
     }
 
     /// Step 4: every reservoir loses this month's depth over its area, or all that it has.
     fn evaporate(&mut self, report: &mut [u64]) {
-        let start = 4 * self.basin.sections.rights.len() + 2 * self.rows();
+        let start = report::evaporation(self.basin.sections.rights.len(), self.rows(), 0);
         let late = self.slips(Slip::DepthOfNextMonth) as usize;
         for (place, record) in self.basin.sections.reservoirs.iter().enumerate() {
             let reservoir = Reservoir::decode(record);

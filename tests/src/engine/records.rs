@@ -3,6 +3,8 @@
 //! Decoding loses nothing and judges nothing: a record that breaks a rule is
 //! decoded as it stands, so that the rules can be asked of it afterwards.
 
+use super::report;
+
 /// Length of the table of contents (01, The basin file).
 pub const CONTENTS_BYTES: usize = 32;
 pub const STATION_BYTES: usize = 8;
@@ -15,6 +17,8 @@ pub const MOST_RESERVOIRS: usize = 8;
 pub const MOST_PATTERNS: usize = 16;
 pub const MOST_RIGHTS: usize = 256;
 pub const MONTHS: usize = 12;
+/// Most runoff of a row in a month (01, The board and one month).
+pub const MOST_RUNOFF: u32 = 1_000_000_000;
 
 /// A right to divert what the river carries.
 pub const DIRECT: u8 = 1;
@@ -216,9 +220,8 @@ impl Basin {
         file
     }
 
-    /// The numbers that a report of this basin holds: four to a right, two to a row, one
-    /// to a reservoir.
+    /// How many numbers a report of this basin holds.
     pub fn report_length(&self) -> usize {
-        4 * self.rights.len() + 2 * self.stations.len() + self.reservoirs.len()
+        report::length(self.rights.len(), self.stations.len(), self.reservoirs.len())
     }
 }

@@ -2,6 +2,7 @@
 
 use super::check::Refusal;
 use super::records::*;
+use super::report;
 use super::slip::{Slip, Telling};
 
 /// Too short for a table of contents, a count out of range, or bodies with a gap or
@@ -19,7 +20,7 @@ pub struct Sections<'a> {
 impl Sections<'_> {
     /// Shortest report that holds a month of this basin.
     pub fn report_length(&self) -> usize {
-        4 * self.rights.len() + 2 * self.stations.len() + self.reservoirs.len()
+        report::length(self.rights.len(), self.stations.len(), self.reservoirs.len())
     }
 }
 

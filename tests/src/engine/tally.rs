@@ -10,6 +10,7 @@
 
 use super::check::Refusal;
 use super::records::*;
+use super::Answer;
 
 mod accounts;
 mod paths;
@@ -98,7 +99,7 @@ impl Tally {
 
     /// One call. It is told what a month call is, but for the board, and of the report
     /// only how long it is; it answers as the month call does.
-    pub fn call(&mut self, runoff: &[u32], report_length: usize) -> (u32, u32) {
+    pub fn call(&mut self, runoff: &[u32], report_length: usize) -> Answer {
         let basin = match &self.basin {
             Ok(basin) => basin.clone(),
             Err(refusal) => return refusal.answer(),
@@ -112,7 +113,7 @@ impl Tally {
         answer
     }
 
-    fn accepted(&mut self, basin: &Basin, runoff: &[u32]) -> (u32, u32) {
+    fn accepted(&mut self, basin: &Basin, runoff: &[u32]) -> Answer {
         if self.m == 0 {
             self.marks.fill(false);
             self.taken.fill(0);
@@ -137,7 +138,7 @@ impl Tally {
             evaporation,
             grants,
         });
-        (0, short_rows.len() as u32)
+        (0, short_rows.len() as u64)
     }
 
     /// Step 3 for one right.

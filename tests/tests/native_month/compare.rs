@@ -1,9 +1,10 @@
 //! One month call by both engines: answer, whole board, whole report, and the numbers
 //! that lie beside both.
 
-use river_tests::engine::month_allowed;
+use river_tests::engine::{month_allowed, report, Answer};
 use river_tests::ffi;
 use river_tests::generate::{River, Rng};
+use river_tests::lent::Lent;
 use std::fmt::Display;
 
 /// What a month call is lent.
@@ -29,29 +30,6 @@ impl Call {
     }
 }
 
-/// Numbers on either side of a lent list, which no call may touch.
-const BESIDE: [u64; 3] = [0x5a5a_5a5a_5a5a_5a5a; 3];
-
-fn between(list: &[u64]) -> Vec<u64> {
-    [&BESIDE, list, &BESIDE].concat()
-}
-
-fn lent(all: &mut [u64]) -> &mut [u64] {
-    let end = all.len() - BESIDE.len();
-    &mut all[BESIDE.len()..end]
-}
-
-/// Asserts that the native list, with what lies beside it, is the expected one.
-fn assert_same(native: &[u64], expected: &[u64], list: &str, at: &dyn Display) {
-    let expected = between(expected);
-    assert_eq!(native.len(), expected.len());
-    if let Some(place) = (0..native.len()).find(|&place| native[place] != expected[place]) {
-        let (native, expected) = (native[place], expected[place]);
-        let place = place as isize - BESIDE.len() as isize;
-        panic!("{at}: {list}, place {place} is {native}, not {expected}");
-    }
-}
-
 #[derive(Default, Debug)]
 pub struct Compared {
     pub calls: usize,
@@ -66,23 +44,23 @@ pub struct Compared {
 impl Compared {
     /// Runs a call by both engines. Answers number and place; the board of an accepted
     /// call is left in `call`.
-    pub fn compare(&mut self, call: &mut Call, at: &dyn Display) -> (u32, u32) {
+    pub fn compare(&mut self, call: &mut Call, at: &dyn Display) -> Answer {
         let (mut board, mut report) = (call.board.clone(), call.report.clone());
         let (answer, allowed) = month_allowed(&call.file, &call.runoff, &mut board, &mut report);
-        let (mut native_board, mut native_report) = (between(&call.board), between(&call.report));
+        let (mut native_board, mut native_report) = (Lent::of(&call.board), Lent::of(&call.report));
         let native =
-            ffi::month(&call.file, &call.runoff, lent(&mut native_board), lent(&mut native_report));
+            ffi::month(&call.file, &call.runoff, native_board.list(), native_report.list());
         assert_eq!(native, answer, "{at}: the answer");
         self.calls += 1;
         self.numbers[answer.0 as usize] += 1;
         if answer.0 != 0 {
-            assert_same(&native_board, &call.board, "refused, board", at);
-            assert_same(&native_report, &call.report, "refused, report", at);
+            native_board.assert_is(&call.board, "refused, board", at);
+            native_report.assert_is(&call.report, "refused, report", at);
             return answer;
         }
-        self.take_named(&mut report, lent(&mut native_report), &allowed);
-        assert_same(&native_report, &report, "report", at);
-        assert_same(&native_board, &board, "board", at);
+        self.take_named(&mut report, native_report.list(), &allowed);
+        native_report.assert_is(&report, "report", at);
+        native_board.assert_is(&board, "board", at);
         call.board = board;
         call.report = report;
         answer
@@ -92,7 +70,7 @@ impl Compared {
     /// named, it is the expected one.
     fn take_named(&mut self, report: &mut [u64], native: &[u64], allowed: &[Vec<u32>]) {
         for (place, stations) in allowed.iter().enumerate() {
-            let (reason, at) = (report[4 * place + 2], 4 * place + 3);
+            let (reason, at) = (report[report::reason(place)], report::station(place));
             let may_name = stations.iter().any(|&number| number as u64 == native[at]);
             if (reason == 1 || reason == 2) && may_name {
                 self.other_station += (report[at] != native[at]) as usize;

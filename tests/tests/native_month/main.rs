@@ -16,6 +16,7 @@ use river_tests::damage::*;
 use river_tests::engine::board::*;
 use river_tests::engine::fresh;
 use river_tests::engine::records::*;
+use river_tests::engine::report;
 use river_tests::generate::{any_river, river, river_of, River, Rng, Size, Volume, Water};
 use spoils::SPOILS;
 use std::env;
@@ -69,7 +70,8 @@ fn blocked_by_marks(basin: &Basin, before: &[u64], report: &[u64], at: &dyn Disp
     let mut storages = before[STORAGES..MARKS].to_vec();
     let mut blocked = 0;
     for (place, right) in basin.rights.iter().enumerate() {
-        let (river, store) = (report[4 * place], report[4 * place + 1]);
+        let (river, store) =
+            (report[report::from_river(place)], report[report::from_storage(place)]);
         let lake = right.reservoir as usize;
         if right.kind == PROJECT {
             storages[lake] -= store;
@@ -181,12 +183,12 @@ fn damaged_files() {
     for seed in first..first + 60 {
         let rng = &mut Rng::new(seed);
         let river = any_river(rng);
-        for &(name, number, edit) in BROKEN {
+        for &(name, number, edit) in BROKEN.iter() {
             let mut basin = river.basin.clone();
             let Some(place) = edit(&mut basin, rng) else { continue };
             let at = format!("RIVER_SEED={seed}, {name}");
             let mut call = damaged_call(&river, basin.encode(), rng);
-            assert_eq!(compared.compare(&mut call, &at), (number, place as u32), "{at}");
+            assert_eq!(compared.compare(&mut call, &at), (number, place as u64), "{at}");
         }
         for (name, file) in not_packed(&river.basin) {
             let at = format!("RIVER_SEED={seed}, {name}");
@@ -222,7 +224,7 @@ fn extreme_files() {
             let mut call = Call { file, runoff, board: vec![0; BOARD], report: vec![0; length] };
             assert_eq!(fresh(&call.file, &mut call.board), (0, 0));
             for month in 0..12 {
-                call.runoff.fill_with(|| *rng.pick(&[0, 90, 3000, 1_000_000_000]));
+                call.runoff.fill_with(|| *rng.pick(&[0, 90, 3000, MOST_RUNOFF]));
                 let at = format!("RIVER_SEED={seed}, {name}, month {month}");
                 assert_eq!(compared.compare(&mut call, &at).0, 0, "{at}");
             }
@@ -249,7 +251,7 @@ fn impossible_boards() {
             }
             // Of two numbers the lower is given: 7 also where 8 applies.
             if rng.chance(30) {
-                call.runoff[0] = 1_000_000_001;
+                call.runoff[0] = MOST_RUNOFF + 1;
             }
             assert_eq!(compared.compare(&mut call, &at), (7, 0), "{at}");
             by_clause[clause] += 1;

@@ -3,6 +3,7 @@
 use crate::compare::Call;
 use river_tests::damage::*;
 use river_tests::engine::board::BOARD;
+use river_tests::engine::records::MOST_RUNOFF;
 use river_tests::generate::{River, Rng};
 
 /// Spoils a call, mostly so that it is refused.
@@ -12,7 +13,7 @@ pub const SPOILS: &[(&str, Spoil)] = &[
     ("file damaged at random", |call, _, rng| call.file = random_damage(rng, &call.file)),
     ("file that breaks a rule", |call, river, rng| {
         let mut basin = river.basin.clone();
-        let &(_, _, edit) = rng.pick(BROKEN);
+        let &(_, _, edit) = rng.pick(&BROKEN);
         if edit(&mut basin, rng).is_some() {
             call.file = basin.encode();
         }
@@ -27,7 +28,7 @@ pub const SPOILS: &[(&str, Spoil)] = &[
     }),
     ("runoff over its limit", |call, _, rng| {
         for _ in 0..*rng.pick(&[1, 1, 2, 5]) {
-            let over = *rng.pick(&[1_000_000_001, 1 << 31, u32::MAX]);
+            let over = *rng.pick(&[MOST_RUNOFF + 1, 1 << 31, u32::MAX]);
             let rows = call.runoff.len();
             if rows > 0 {
                 call.runoff[rng.below(rows)] = over;

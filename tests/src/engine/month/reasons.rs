@@ -2,6 +2,7 @@
 
 use super::{Grant, Month};
 use crate::engine::records::*;
+use crate::engine::report;
 use crate::engine::slip::{Slip, Telling};
 
 impl<T: Telling> Month<'_, T> {
@@ -59,14 +60,14 @@ impl<T: Telling> Month<'_, T> {
     pub(super) fn serve_seniors_again(&mut self, report: &mut [u64]) {
         for (place, record) in self.basin.sections.rights.iter().enumerate() {
             let right = Right::decode(record);
-            if right.kind != DIRECT || report[4 * place + 2] == 0 {
+            if right.kind != DIRECT || report[report::reason(place)] == 0 {
                 continue;
             }
             let path = self.basin.network.path[right.row as usize];
-            let lacking = self.scheduled(&right) - report[4 * place] as i64;
+            let lacking = self.scheduled(&right) - report[report::from_river(place)] as i64;
             let more = lacking.min(self.lowest_available(path));
             self.raise(path, -more);
-            report[4 * place] += more as u64;
+            report[report::from_river(place)] += more as u64;
         }
     }
 }

@@ -3,6 +3,7 @@
 
 use crate::engine::board::{possible, BOARD, NOT_POSSIBLE, WRONG_LENGTH};
 use crate::engine::check::{Judged, Refusal};
+use crate::engine::records::MOST_RUNOFF;
 use crate::engine::slip::{Slip, Telling};
 
 pub fn judge_call<T: Telling>(
@@ -35,7 +36,7 @@ pub fn judge_call<T: Telling>(
 
 /// Runoff over its limit is refused at the first row that has it.
 fn judge_runoff<T: Telling>(telling: &T, runoff: &[u32]) -> Result<(), Refusal> {
-    let most = 1_000_000_000 - telling.slips(Slip::RunoffLimitTight) as u32;
+    let most = MOST_RUNOFF - telling.slips(Slip::RunoffLimitTight) as u32;
     let over = |&number: &u32| number > most;
     let row = if telling.slips(Slip::RunoffLastAtFault) {
         runoff.iter().rposition(over)
@@ -43,7 +44,7 @@ fn judge_runoff<T: Telling>(telling: &T, runoff: &[u32]) -> Result<(), Refusal> 
         runoff.iter().position(over)
     };
     match row {
-        Some(row) => Err(Refusal { number: 8, place: row as u32 }),
+        Some(row) => Err(Refusal { number: 8, place: row as u64 }),
         None => Ok(()),
     }
 }

@@ -82,7 +82,7 @@ impl<T: Telling> Month<'_, T> {
         if short {
             self.short_rows |= self.rows_that_call(right);
         }
-        self.shorts += if self.slips(Slip::ShortsCountCalled) { called } else { short } as u32;
+        self.shorts += if self.slips(Slip::ShortsCountCalled) { called } else { short } as u64;
         (grant, reason, self.named(right, reason, rows))
     }
 

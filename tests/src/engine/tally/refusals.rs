@@ -4,6 +4,7 @@ use crate::engine::check::{judge, Refusal};
 use crate::engine::network::Network;
 use crate::engine::records::*;
 use crate::engine::slip::Faithful;
+use crate::engine::Answer;
 
 /// Decodes an accepted file; the check decides which are.
 pub fn decode(file: &[u8]) -> Result<Basin, Refusal> {
@@ -19,10 +20,10 @@ pub fn decode(file: &[u8]) -> Result<Basin, Refusal> {
 
 /// What is turned down of a sound file. A board kept by the rules is never the cause,
 /// so 6 and 8 are left.
-pub fn refused(basin: &Basin, runoff: &[u32], report_length: usize) -> Option<(u32, u32)> {
+pub fn refused(basin: &Basin, runoff: &[u32], report_length: usize) -> Option<Answer> {
     if runoff.len() != basin.stations.len() || report_length < basin.report_length() {
         return Some((6, 0));
     }
-    let over = runoff.iter().position(|&number| number > 1_000_000_000)?;
-    Some((8, over as u32))
+    let over = runoff.iter().position(|&number| number > MOST_RUNOFF)?;
+    Some((8, over as u64))
 }

@@ -9,7 +9,7 @@ use denote.Ref.{now}
 use lib.Dec.{leb}
 use Rattle.general.proofs.Loops.{all-none, all-more}
 use Rattle.general.specs.Tests.{allTo}
-use Rattle.boards.specs.Board.{takenAt}
+use Rattle.places.specs.Board.{takenAt}
 use Rattle.boards.specs.Bodies.{takenMost, heldOk}
 use Rattle.boards.proofs.possible.held_ok.Statement.{statement}
 use Rattle.boards.proofs.possible.held_ok.Tie as tie
@@ -27,8 +27,8 @@ abbrev μ-loop : tie.MeasureT-loop
 loop-holds : tie.Need-loop-holds Inv-loop μ-loop
 loop-holds c = (search needs, all-none _)
 
-add-both : tie.Need-add-both Inv-loop μ-loop
-add-both c = search needs
+taken-place-requires : tie.Need-taken-place-requires Inv-loop μ-loop
+taken-place-requires c κs = search needs
 
 mul-both : tie.Need-mul-both Inv-loop μ-loop
 mul-both c = search needs
@@ -49,7 +49,7 @@ loop-less : tie.Need-loop-less Inv-loop μ-loop
 loop-less c = search needs
 
 loop-again : tie.Need-loop-again Inv-loop μ-loop
-loop-again c = (omega arith, all-more (low (now (c .before .before .before .before .before .before .before .args .rights)) (now (c .before .before .before .before .before .before .before .args .board))) (c .before .before .before .before .loop .i) _ _ (c .before .before .before .before .loop .inv .1) (cc))
+loop-again c = (omega arith, all-more (low (now (c .before .before .before .before .before .before .before .before .args .rights)) (now (c .before .before .before .before .before .before .before .before .args .board))) (c .before .before .before .before .before .loop .i) _ _ (c .before .before .before .before .before .loop .inv .1) (cc))
 
 returns : tie.Need-returns Inv-loop μ-loop
 unfolding heldOk
@@ -62,7 +62,7 @@ held-ok-spec =
     Inv-loop
     μ-loop
     loop-holds
-    add-both
+    taken-place-requires
     mul-both
     shared-slice-read-both
     taken-most-requires

@@ -7,9 +7,10 @@ use borrow.Author.Needs.{needs}
 use denote.Ref.{now}
 use lib.Dec.{ltb}
 use Rattle.general.specs.Tests.{_and_}
-use Rattle.records.specs.Records.{rowsOf, reservoirCount}
-use Rattle.boards.specs.Board.{monthAt, marksAt, possible}
-use Rattle.boards.specs.Bodies.{bodies, storagesOk, takenOk, duesOk}
+use Rattle.records.specs.Records.{rowsOf, reservoirCount, bodies}
+use Rattle.places.specs.Board.{monthAt, marksAt}
+use Rattle.boards.specs.Board.{possible}
+use Rattle.boards.specs.Bodies.{storagesOk, takenOk, duesOk}
 use Rattle.boards.proofs.Bodies.{possible-bodies}
 use Rattle.boards.proofs.possible.is_possible.Statement.{statement}
 use Rattle.boards.proofs.possible.is_possible.Tie as tie

@@ -2,7 +2,7 @@
 use mathlib.Core.Path.{_≡_, ap, _∙_}
 use mathlib.Core.Bool.{Bool}
 use mathlib.Core.List.{List}
-use Prim.Native.Nat.{ℕ, suc, _+_, _-_, _*_, _≤_}
+use Prim.Native.Nat.{ℕ, suc, _-_, _≤_}
 use native.Mathlib.Omega.{arith}
 use borrow.Author.Needs.{needs}
 use denote.Ref.{now}
@@ -10,9 +10,8 @@ use lib.Dec.{leb}
 use lib.ListN.{getD}
 use Rattle.general.proofs.Loops.{all-none, all-more}
 use Rattle.general.specs.Tests.{_and_, allTo}
-use Rattle.boards.specs.Board.{dueAt}
+use Rattle.places.specs.Board.{duePlace, dueAt}
 use Rattle.boards.specs.Bodies.{dueMost, rowOk}
-use Rattle.boards.proofs.Bodies.{due-read}
 use Rattle.boards.proofs.possible.row_ok.Statement.{statement}
 use Rattle.boards.proofs.possible.row_ok.Tie as tie
 
@@ -21,8 +20,8 @@ abbrev low : ℕ → List ℕ → ℕ → ℕ → Bool
 low n board w k = leb (dueAt board w (suc k)) (dueMost n w k)
 
 -- the due as it was read
-ruled : (n : ℕ) (board : List ℕ) (w k : ℕ) (a : Bool) {m : ℕ} {b : Bool} → m ≡ dueMost n w k → b ≡ (a and leb (getD board (266 + 11 * w + k) 0) m) → b ≡ (a and low n board w k)
-ruled n board w k a em eb = cc (due-read board w k)
+ruled : (n : ℕ) (board : List ℕ) (w k : ℕ) (a : Bool) {p m : ℕ} {b : Bool} → p ≡ duePlace w k → m ≡ dueMost n w k → b ≡ (a and leb (getD board p 0) m) → b ≡ (a and low n board w k)
+ruled n board w k a ep em eb = cc
 
 abbrev Inv-loop : tie.InvT-loop
 Inv-loop n board w all₀ k₀ all k = (k ≤ 11) × (all ≡ allTo k (low n board w))
@@ -33,17 +32,11 @@ abbrev μ-loop : tie.MeasureT-loop
 loop-holds : tie.Need-loop-holds Inv-loop μ-loop
 loop-holds c = (search needs, all-none _)
 
+due-place-requires : tie.Need-due-place-requires Inv-loop μ-loop
+due-place-requires c κs = search needs
+
 mul-both : tie.Need-mul-both Inv-loop μ-loop
 mul-both c = search needs
-
-add-both : tie.Need-add-both Inv-loop μ-loop
-add-both c = search needs
-
-add-both-2 : tie.Need-add-both-2 Inv-loop μ-loop
-add-both-2 c = search needs
-
-mul-both-2 : tie.Need-mul-both-2 Inv-loop μ-loop
-mul-both-2 c = search needs
 
 shared-slice-read-both : tie.Need-shared-slice-read-both Inv-loop μ-loop
 shared-slice-read-both c = search needs
@@ -61,7 +54,7 @@ loop-less : tie.Need-loop-less Inv-loop μ-loop
 loop-less c = search needs
 
 loop-again : tie.Need-loop-again Inv-loop μ-loop
-loop-again c = (omega arith, all-more (low (c .before .before .before .before .before .before .args .n) (now (c .before .before .before .before .before .before .args .board)) (c .before .before .before .before .before .before .args .w)) (c .before .before .before .before .loop .k) _ _ (c .before .before .before .before .loop .inv .1) (ruled (c .before .before .before .before .before .before .args .n) (now (c .before .before .before .before .before .before .args .board)) (c .before .before .before .before .before .before .args .w) (c .before .before .before .before .loop .k) (c .before .before .before .before .loop .all) (c .before .due-most .ensures) (c .both .ensures)))
+loop-again c = (omega arith, all-more (low (c .before .before .before .before .before .before .before .args .n) (now (c .before .before .before .before .before .before .before .args .board)) (c .before .before .before .before .before .before .before .args .w)) (c .before .before .before .before .before .loop .k) _ _ (c .before .before .before .before .before .loop .inv .1) (ruled (c .before .before .before .before .before .before .before .args .n) (now (c .before .before .before .before .before .before .before .args .board)) (c .before .before .before .before .before .before .before .args .w) (c .before .before .before .before .before .loop .k) (c .before .before .before .before .before .loop .all) (c .before .before .before .due-place .ensures) (c .before .due-most .ensures) (c .both .ensures)))
 
 returns : tie.Need-returns Inv-loop μ-loop
 unfolding rowOk
@@ -74,10 +67,8 @@ row-ok-spec =
     Inv-loop
     μ-loop
     loop-holds
+    due-place-requires
     mul-both
-    add-both
-    add-both-2
-    mul-both-2
     shared-slice-read-both
     due-most-requires
     both-requires

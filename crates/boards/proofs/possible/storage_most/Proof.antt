@@ -19,12 +19,12 @@ add-le32 c = search needs
 le32-requires : tie.Need-le32-requires
 le32-requires c κs = search needs
 
-wide-requires : tie.Need-wide-requires
-wide-requires c κs = search needs
+wide32-requires : tie.Need-wide32-requires
+wide32-requires c κs = search needs
 
 returns-2 : tie.Need-returns-2
-returns-2 c = c .wide .ensures ∙ c .before .le32 .ensures ∙ some-storage (now (c .before .before .before .before .args .reservoirs)) _ (omega arith)
+returns-2 c = c .wide32 .ensures .0 ∙ c .before .le32 .ensures ∙ some-storage (now (c .before .before .before .before .args .reservoirs)) _ (omega arith)
 
 pub storage-most-spec : {M : Type 1} → statement M
 storage-most-spec =
-    tie.close (tie.spec returns mul-le32 add-le32 le32-requires wide-requires returns-2)
+    tie.close (tie.spec returns mul-le32 add-le32 le32-requires wide32-requires returns-2)

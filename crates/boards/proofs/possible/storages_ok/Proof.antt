@@ -7,9 +7,10 @@ use native.Mathlib.Omega.{arith}
 use borrow.Author.Needs.{needs}
 use denote.Ref.{now}
 use lib.Dec.{leb}
+use lib.ListN.{getD}
 use Rattle.general.proofs.Loops.{all-none, all-more}
 use Rattle.general.specs.Tests.{_and_, allTo}
-use Rattle.boards.specs.Board.{storageAt}
+use Rattle.places.specs.Board.{storagePlace, storageAt}
 use Rattle.boards.specs.Bodies.{storageMost, storagesOk}
 use Rattle.boards.proofs.possible.storages_ok.Statement.{statement}
 use Rattle.boards.proofs.possible.storages_ok.Tie as tie
@@ -19,8 +20,8 @@ abbrev low : List ℕ → List ℕ → ℕ → Bool
 low rs board v = leb (storageAt board v) (storageMost rs v)
 
 -- the number as it was read
-ruled : (rs board : List ℕ) (v : ℕ) (a : Bool) {m : ℕ} {b : Bool} → m ≡ storageMost rs v → b ≡ (a and leb (storageAt board v) m) → b ≡ (a and low rs board v)
-ruled rs board v a em eb = cc
+ruled : (rs board : List ℕ) (v : ℕ) (a : Bool) {p m : ℕ} {b : Bool} → p ≡ storagePlace v → m ≡ storageMost rs v → b ≡ (a and leb (getD board p 0) m) → b ≡ (a and low rs board v)
+ruled rs board v a ep em eb = cc
 
 abbrev Inv-loop : tie.InvT-loop
 Inv-loop reservoirs board all₀ v₀ all v = (v ≤ 8) × (all ≡ allTo v (low reservoirs board))
@@ -31,8 +32,8 @@ abbrev μ-loop : tie.MeasureT-loop
 loop-holds : tie.Need-loop-holds Inv-loop μ-loop
 loop-holds c = (search needs, all-none _)
 
-add-both : tie.Need-add-both Inv-loop μ-loop
-add-both c = search needs
+storage-place-requires : tie.Need-storage-place-requires Inv-loop μ-loop
+storage-place-requires c κs = search needs
 
 mul-both : tie.Need-mul-both Inv-loop μ-loop
 mul-both c = search needs
@@ -53,7 +54,7 @@ loop-less : tie.Need-loop-less Inv-loop μ-loop
 loop-less c = search needs
 
 loop-again : tie.Need-loop-again Inv-loop μ-loop
-loop-again c = (omega arith, all-more (low (now (c .before .before .before .before .before .before .before .args .reservoirs)) (now (c .before .before .before .before .before .before .before .args .board))) (c .before .before .before .before .loop .v) _ _ (c .before .before .before .before .loop .inv .1) (ruled (now (c .before .before .before .before .before .before .before .args .reservoirs)) (now (c .before .before .before .before .before .before .before .args .board)) (c .before .before .before .before .loop .v) (c .before .before .before .before .loop .all) (c .before .storage-most .ensures) (c .both .ensures)))
+loop-again c = (omega arith, all-more (low (now (c .before .before .before .before .before .before .before .before .args .reservoirs)) (now (c .before .before .before .before .before .before .before .before .args .board))) (c .before .before .before .before .before .loop .v) _ _ (c .before .before .before .before .before .loop .inv .1) (ruled (now (c .before .before .before .before .before .before .before .before .args .reservoirs)) (now (c .before .before .before .before .before .before .before .before .args .board)) (c .before .before .before .before .before .loop .v) (c .before .before .before .before .before .loop .all) (c .before .before .before .storage-place .ensures) (c .before .storage-most .ensures) (c .both .ensures)))
 
 returns : tie.Need-returns Inv-loop μ-loop
 unfolding storagesOk
@@ -66,7 +67,7 @@ storages-ok-spec =
     Inv-loop
     μ-loop
     loop-holds
-    add-both
+    storage-place-requires
     mul-both
     shared-slice-read-both
     storage-most-requires

@@ -9,7 +9,7 @@ use denote.Ref.{now}
 use lib.Dec.{eqb}
 use Rattle.general.proofs.Loops.{all-none, all-more}
 use Rattle.general.specs.Tests.{allTo}
-use Rattle.boards.specs.Board.{takenAt}
+use Rattle.places.specs.Board.{takenAt}
 use Rattle.boards.specs.Bodies.{unusedOk}
 use Rattle.boards.proofs.Bodies.{free-read}
 use Rattle.boards.proofs.possible.unused_ok.Statement.{statement}
@@ -31,11 +31,11 @@ sub-free c = search needs
 loop-holds : tie.Need-loop-holds Inv-loop μ-loop
 loop-holds c = (search needs, all-none _)
 
-add-both : tie.Need-add-both Inv-loop μ-loop
-add-both c = search needs
+add-taken-place : tie.Need-add-taken-place Inv-loop μ-loop
+add-taken-place c = search needs
 
-add-both-2 : tie.Need-add-both-2 Inv-loop μ-loop
-add-both-2 c = search needs
+taken-place-requires : tie.Need-taken-place-requires Inv-loop μ-loop
+taken-place-requires c κs = search needs
 
 mul-both : tie.Need-mul-both Inv-loop μ-loop
 mul-both c = search needs
@@ -54,8 +54,8 @@ loop-less c = search needs
 
 loop-again : tie.Need-loop-again Inv-loop μ-loop
 loop-again c =
-    let s = c .before .before .before .before .before .args in
-    let l = c .before .before .before .loop in
+    let s = c .before .before .before .before .before .before .args in
+    let l = c .before .before .before .before .loop in
     (omega arith, all-more (none (s .n) (now (s .board))) (l .j) _ _ (l .inv .1) (cc (free-read (now (s .board)) (s .n) (l .j))))
 
 returns : tie.Need-returns Inv-loop μ-loop
@@ -70,8 +70,8 @@ unused-ok-spec =
     μ-loop
     sub-free
     loop-holds
-    add-both
-    add-both-2
+    add-taken-place
+    taken-place-requires
     mul-both
     shared-slice-read-both
     both-requires

@@ -1,6 +1,6 @@
 -- `filerules::reservoirs::areas_ok` meets its contract. Assumes nothing.
 use borrow.Author.Needs.{needs}
-use Rattle.layout.specs.Bytes.{allAtMost}
+use Rattle.numbers.specs.Bytes.{allAtMost}
 use Rattle.records.specs.Records.{areaAt}
 use Rattle.filerules.specs.FileRules.{areasOk}
 use Rattle.filerules.proofs.reservoirs.areas_ok.Statement.{statement}

@@ -8,7 +8,7 @@ use denote.Ref.{now}
 use lib.Dec.{leb, ltb}
 use Rattle.general.specs.Tests.{_and_, between}
 use Rattle.records.specs.declared.reservoirs.ReservoirRecord.{ReservoirRecord}
-use Rattle.layout.specs.Bytes.{threeZeros}
+use Rattle.numbers.specs.Bytes.{threeZeros}
 use Rattle.records.specs.Records.{rowsOf, reservoirRecord}
 use Rattle.filerules.specs.FileRules.{reservoirPlain}
 use Rattle.filerules.proofs.reservoirs.plain_ok.Statement.{statement}

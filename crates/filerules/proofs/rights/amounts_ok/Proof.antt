@@ -1,6 +1,6 @@
 -- `filerules::rights::amounts_ok` meets its contract. Assumes nothing.
 use borrow.Author.Needs.{needs}
-use Rattle.layout.specs.Bytes.{allAtMost}
+use Rattle.numbers.specs.Bytes.{allAtMost}
 use Rattle.records.specs.Records.{amountAt}
 use Rattle.filerules.specs.FileRules.{amountsOk}
 use Rattle.filerules.proofs.rights.amounts_ok.Statement.{statement}

@@ -11,13 +11,13 @@ use Rattle.filerules.proofs.rights.heading_ok.Statement.{statement}
 use Rattle.filerules.proofs.rights.heading_ok.Tie as tie
 
 -- the answers of the rules, and their conjunctions one after the other
-ruled : (n : ℕ) (r : RightRecord) {k w : ℕ} {a₁ a₂ a₃ l b₁ b₂ b₃ b₄ b₅ b₆ : Bool}
-    → a₁ ≡ between 1 (r .permit) 999_999_999 → a₂ ≡ dateOk (r .date) → b₁ ≡ (a₁ and a₂) → k ≡ r .kind → a₃ ≡ between 1 k 4
-    → b₂ ≡ (b₁ and a₃) → w ≡ r .row → b₃ ≡ (b₂ and ltb w n) → b₄ ≡ (b₃ and leb (r .points) 4) → b₅ ≡ (b₄ and ltb (r .months) 4096)
-    → l ≡ limitOk (r .kind) (r .limit) → b₆ ≡ (b₅ and l)
-    → b₆ ≡ headingOk n r
+ruled : (n : ℕ) (r : RightRecord) {w : ℕ} {a₁ a₂ l b₁ b₂ b₃ b₄ b₅ : Bool}
+    → a₁ ≡ between 1 (r .permit) 999_999_999 → a₂ ≡ dateOk (r .date) → b₁ ≡ (a₁ and a₂)
+    → w ≡ r .row → b₂ ≡ (b₁ and ltb w n) → b₃ ≡ (b₂ and leb (r .points) 4) → b₄ ≡ (b₃ and ltb (r .months) 4096)
+    → l ≡ limitOk (r .kind) (r .limit) → b₅ ≡ (b₄ and l)
+    → b₅ ≡ headingOk n r
 unfolding headingOk
-ruled n r e₁ e₂ e₃ e₄ e₅ e₆ e₇ e₈ e₉ e₁₀ e₁₁ e₁₂ = cc
+ruled n r e₁ e₂ e₃ e₄ e₅ e₆ e₇ e₈ e₉ = cc
 
 in-range-requires : tie.Need-in-range-requires
 in-range-requires c κs = search needs
@@ -28,17 +28,11 @@ date-ok-requires c κs = search needs
 both-requires : tie.Need-both-requires
 both-requires c κs = search needs
 
-wide32-requires : tie.Need-wide32-requires
-wide32-requires c κs = search needs
-
-in-range-requires-2 : tie.Need-in-range-requires-2
-in-range-requires-2 c κs = search needs
+index-requires : tie.Need-index-requires
+index-requires c κs = search needs
 
 both-requires-2 : tie.Need-both-requires-2
 both-requires-2 c κs = search needs
-
-index-requires : tie.Need-index-requires
-index-requires c κs = search needs
 
 both-requires-3 : tie.Need-both-requires-3
 both-requires-3 c κs = search needs
@@ -46,20 +40,16 @@ both-requires-3 c κs = search needs
 both-requires-4 : tie.Need-both-requires-4
 both-requires-4 c κs = search needs
 
-both-requires-5 : tie.Need-both-requires-5
-both-requires-5 c κs = search needs
-
 limit-ok-requires : tie.Need-limit-ok-requires
 limit-ok-requires c κs = search needs
 
-both-requires-6 : tie.Need-both-requires-6
-both-requires-6 c κs = search needs
+both-requires-5 : tie.Need-both-requires-5
+both-requires-5 c κs = search needs
 
 returns : tie.Need-returns
 returns c =
-    let a = c .before .before .before .before .before .before .before .before .before .before .before .before .before .before .args in
-    ruled (a .n) (a .r) (c .before .before .before .before .before .before .before .before .before .before .before .before .before .in-range .ensures) (c .before .before .before .before .before .before .before .before .before .before .before .before .date-ok .ensures) (c .before .before .before .before .before .before .before .before .before .before .before .both .ensures) (c .before .before .before .before .before .before .before .before .before .before .wide32 .ensures .0) (c .before .before .before .before .before .before .before .before .before .in-range2 .ensures)
-    (c .before .before .before .before .before .before .before .before .both2 .ensures) (c .before .before .before .before .before .before .before .index .ensures .0) (c .before .before .before .before .before .before .both3 .ensures) (c .before .before .before .before .both4 .ensures) (c .before .before .both5 .ensures) (c .before .limit-ok .ensures) (c .both6 .ensures)
+    let a = c .before .before .before .before .before .before .before .before .before .before .before .args in
+    ruled (a .n) (a .r) (c .before .before .before .before .before .before .before .before .before .before .in-range .ensures) (c .before .before .before .before .before .before .before .before .before .date-ok .ensures) (c .before .before .before .before .before .before .before .before .both .ensures) (c .before .before .before .before .before .before .before .index .ensures .0) (c .before .before .before .before .before .before .both2 .ensures) (c .before .before .before .before .both3 .ensures) (c .before .before .both4 .ensures) (c .before .limit-ok .ensures) (c .both5 .ensures)
 
 pub heading-ok-spec : {M : Type 1} → statement M
 heading-ok-spec =
@@ -68,13 +58,10 @@ heading-ok-spec =
     in-range-requires
     date-ok-requires
     both-requires
-    wide32-requires
-    in-range-requires-2
-    both-requires-2
     index-requires
+    both-requires-2
     both-requires-3
     both-requires-4
-    both-requires-5
     limit-ok-requires
-    both-requires-6
+    both-requires-5
     returns)

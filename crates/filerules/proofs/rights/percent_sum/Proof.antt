@@ -1,6 +1,6 @@
 -- `filerules::rights::percent_sum` meets its contract. Assumes nothing.
 use borrow.Author.Needs.{needs}
-use Rattle.layout.specs.Bytes.{byteSum}
+use Rattle.numbers.specs.Bytes.{byteSum}
 use Rattle.records.specs.Records.{returnPercent}
 use Rattle.filerules.proofs.rights.percent_sum.Statement.{statement}
 use Rattle.filerules.proofs.rights.percent_sum.Tie as tie

@@ -7,8 +7,8 @@ use Rattle.filerules.proofs.rights.point_ok.Tie as tie
 both-requires : tie.Need-both-requires
 both-requires c κs = search needs
 
-wide32-requires : tie.Need-wide32-requires
-wide32-requires c κs = search needs
+byte32-requires : tie.Need-byte32-requires
+byte32-requires c κs = search needs
 
 in-range-requires : tie.Need-in-range-requires
 in-range-requires c κs = search needs
@@ -22,4 +22,4 @@ returns c = cc
 
 pub point-ok-spec : {M : Type 1} → statement M
 point-ok-spec =
-    tie.close (tie.spec both-requires wide32-requires in-range-requires both-requires-2 returns)
+    tie.close (tie.spec both-requires byte32-requires in-range-requires both-requires-2 returns)

@@ -1,81 +1,66 @@
--- `filerules::rights::source_ok` meets its contract. One law for each case of the rule. The walk starts at a station's row, since the reservoirs are good. Assumes nothing.
-use mathlib.Core.Bool.{Bool, false, _||_}
+-- `filerules::rights::source_ok` meets its contract. Assumes nothing.
+use mathlib.Core.Bool.{Bool}
 use mathlib.Core.List.{List}
-use mathlib.Core.Path.{_≡_, sym, ap, _∙_}
-use Prim.Native.Nat.{ℕ, _<_}
-use native.Mathlib.Omega.{arith}
+use mathlib.Core.Path.{_≡_, refl}
+use Prim.Native.Nat.{ℕ}
 use borrow.Author.Needs.{needs}
 use denote.Ref.{now}
 use lib.Dec.{eqb}
-use Rattle.general.specs.Tests.{has}
-use Rattle.rules.specs.Path.{path}
-use Rattle.records.specs.declared.reservoirs.ReservoirRecord.{ReservoirRecord}
+use Rattle.records.specs.declared.rights.Kind.the-variants.{Project, Storage}
 use Rattle.records.specs.declared.rights.RightRecord.{RightRecord}
-use Rattle.records.specs.Records.{stationsOf, reservoirCount, reservoirRecord}
-use Rattle.filerules.specs.FileRules.{sourceOk}
-use Rattle.filerules.proofs.Cases.{source-none, source-out, source-stored, source-path}
-use Rattle.records.proofs.Table.{walk-is}
+use Rattle.records.proofs.KindArms.{direct-or-instream}
+use Rattle.filerules.specs.FileRules.{belowReservoir, atReservoir, sourceOk}
 use Rattle.filerules.proofs.rights.source_ok.Statement.{statement}
 use Rattle.filerules.proofs.rights.source_ok.Tie as tie
 
--- the reservoir's record as it was read, and the rows as they are walked
-module _ (st rs : List ℕ) (r : RightRecord) (e : (eqb (r .kind) 1 || eqb (r .kind) 3) ≡ false) (h : r .reservoir < reservoirCount rs) {v : ℕ} {x : ReservoirRecord} (ev : v ≡ r .reservoir) (ex : x ≡ reservoirRecord rs v) where
-  stored : r .kind ≡ 4 → eqb (r .row) (x .row) ≡ sourceOk st rs r
-  stored k = cc (source-stored st rs r e h k)
+-- the kinds with a reservoir, its place and the row as they were read
+module _ (st rs : List ℕ) (r : RightRecord) {v : ℕ} {b : Bool} where
+  project : {row : ℕ} → r .kind ≡ Project → v ≡ r .reservoir → row ≡ r .row → b ≡ belowReservoir st rs v row → b ≡ sourceOk (r .kind) st rs r
+  unfolding sourceOk
+  project k ev er e = rw k (rw (ev, er) at e)
 
-  walked : (r .kind ≡ 4 → ⊥) → {q i : ℕ} {b w : Bool} → q ≡ x .row → i ≡ r .row → b ≡ w → w ≡ has i (path (stationsOf st) q) → b ≡ sourceOk st rs r
-  walked k eq ei eb ew = cc (source-path st rs r e h k)
-
-either-requires : tie.Need-either-requires
-either-requires c κs = search needs
-
-returns : tie.Need-returns
-returns c = λ st k g. let a = c .before .before .before .before .before .before .args in sym (source-none st (now (a .reservoirs)) (a .r) (sym (c .before .before .either .ensures) ∙ c .before .if1 .taken))
+  stored : r .kind ≡ Storage → v ≡ r .reservoir → b ≡ atReservoir rs v (r .row) → b ≡ sourceOk (r .kind) st rs r
+  unfolding sourceOk
+  stored k ev e = rw k (rw ev at e)
 
 index-requires : tie.Need-index-requires
 index-requires c κs = search needs
 
-returns-2 : tie.Need-returns-2
-returns-2 c = λ st k g. let a = c .before .before .before .before .before .before .before .args in sym (source-out st (now (a .reservoirs)) (a .r) (sym (c .before .before .before .either .ensures) ∙ c .before .before .if1 .left) (omega arith))
-
-reservoir-at-requires : tie.Need-reservoir-at-requires
-reservoir-at-requires c κs = search needs
-
-returns-3 : tie.Need-returns-3
-returns-3 c = λ st k g. let a = c .before .before .before .before .before .before .before .before .before .before .before .before .args in stored st (now (a .reservoirs)) (a .r) (sym (c .before .before .before .before .before .before .before .before .either .ensures) ∙ c .before .before .before .before .before .before .before .if1 .left) (omega arith) (c .before .before .before .before .before .before .index .ensures .0) (c .before .before .before .before .reservoir-at .ensures) (c .before .before .if3 .taken)
+enum-told : tie.Need-enum-told
+enum-told c = search needs
 
 index-requires-2 : tie.Need-index-requires-2
 index-requires-2 c κs = search needs
 
-index-requires-3 : tie.Need-index-requires-3
-index-requires-3 c κs = search needs
+below-reservoir-requires : tie.Need-below-reservoir-requires
+below-reservoir-requires c κs = search needs
 
-on-path-requires : tie.Need-on-path-requires
-on-path-requires c κs =
-    let b = c .before .before .before .before .before .before .before .before .before .before .before .before in
-    let v = c .before .before .before .before .before .before .index .result in
-    let e : c .before .index2 .result ≡ (reservoirRecord (now (b .args .reservoirs)) v) .row = c .before .index2 .ensures .0 ∙ ap (λ (x : ReservoirRecord). x .row) (c .before .before .before .before .reservoir-at .ensures) in
-    record { downhill = b .pre .downhill; on = omega (arith, b .pre .row-in v (omega arith)) }
+enum-told-2 : tie.Need-enum-told-2
+enum-told-2 c = search needs
 
-returns-4 : tie.Need-returns-4
-returns-4 c = λ st k g.
-    let b = c .before .before .before .before .before .before .before .before .before .before .before .before .before in
-    let v = c .before .before .before .before .before .before .before .index .result in
-    let e : c .before .before .index2 .result ≡ (reservoirRecord (now (b .args .reservoirs)) v) .row = c .before .before .index2 .ensures .0 ∙ ap (λ (x : ReservoirRecord). x .row) (c .before .before .before .before .before .reservoir-at .ensures) in
-    let w = walk-is st (now (b .args .below)) k (c .before .before .index2 .result) (c .before .index3 .result) (omega (arith, g .row-in v (omega arith))) in
-    walked st (now (b .args .reservoirs)) (b .args .r) (sym (c .before .before .before .before .before .before .before .before .before .either .ensures) ∙ c .before .before .before .before .before .before .before .before .if1 .left) (omega arith) (c .before .before .before .before .before .before .before .index .ensures .0) (c .before .before .before .before .before .reservoir-at .ensures) (c .before .before .before .if3 .left) (c .before .before .index2 .ensures .0) (c .before .index3 .ensures .0) (c .on-path .ensures) w
+at-reservoir-requires : tie.Need-at-reservoir-requires
+at-reservoir-requires c κs = search needs
+
+returns : tie.Need-returns
+unfolding sourceOk
+returns c = λ st k g. let a = c .before .before .before .before .args in direct-or-instream (λ x. eqb (a .r .reservoir) 255 ≡ sourceOk x st (now (a .reservoirs)) (a .r)) refl refl (a .r .kind) (c .before .match .keys1)
+
+returns-2 : tie.Need-returns-2
+returns-2 c = λ st k g. let a = c .before .before .before .before .before .before .args in project st (now (a .reservoirs)) (a .r) (c .before .before .enum-told .given .1) (c .before .before .before .before .index .ensures .0) (c .before .index2 .ensures .0) (c .below-reservoir .ensures st k g)
+
+returns-3 : tie.Need-returns-3
+returns-3 c = λ st k g. let a = c .before .before .before .before .before .args in stored st (now (a .reservoirs)) (a .r) (c .before .enum-told2 .given .1) (c .before .before .before .index .ensures .0) (c .at-reservoir .ensures)
 
 pub source-ok-spec : {M : Type 1} → statement M
 source-ok-spec =
     tie.close
     (tie.spec
-    either-requires
-    returns
     index-requires
-    returns-2
-    reservoir-at-requires
-    returns-3
+    enum-told
     index-requires-2
-    index-requires-3
-    on-path-requires
-    returns-4)
+    below-reservoir-requires
+    enum-told-2
+    at-reservoir-requires
+    returns
+    returns-2
+    returns-3)

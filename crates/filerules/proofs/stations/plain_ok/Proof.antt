@@ -7,7 +7,7 @@ use borrow.Author.Needs.{needs}
 use denote.Ref.{now}
 use Rattle.general.specs.Tests.{_and_, between}
 use Rattle.records.specs.declared.stations.StationRecord.{StationRecord}
-use Rattle.layout.specs.Bytes.{threeZeros}
+use Rattle.numbers.specs.Bytes.{threeZeros}
 use Rattle.records.specs.Records.{stationRecord}
 use Rattle.filerules.specs.FileRules.{numberRises, stationPlain}
 use Rattle.filerules.proofs.stations.plain_ok.Statement.{statement}
@@ -33,8 +33,8 @@ number-rises-requires c κs = search needs
 both-requires : tie.Need-both-requires
 both-requires c κs = search needs
 
-wide32-requires : tie.Need-wide32-requires
-wide32-requires c κs = search needs
+byte32-requires : tie.Need-byte32-requires
+byte32-requires c κs = search needs
 
 in-range-requires-2 : tie.Need-in-range-requires-2
 in-range-requires-2 c κs = search needs
@@ -58,7 +58,7 @@ returns : tie.Need-returns
 returns c =
     let a = c .before .before .before .before .before .before .before .before .before .before .args in
     ruled (now (a .stations)) (a .row) (c .before .before .before .before .before .before .before .before .station-at .ensures) (c .before .before .before .before .before .before .before .in-range .ensures) (c .before .before .before .before .before .before .number-rises .ensures) (c .before .before .before .before .before .both .ensures)
-    (c .before .before .before .before .wide32 .ensures .0) (c .before .before .before .in-range2 .ensures) (c .before .before .both2 .ensures) (c .before .three-zeros .ensures) (c .both3 .ensures)
+    (c .before .before .before .before .byte32 .ensures .0) (c .before .before .before .in-range2 .ensures) (c .before .before .both2 .ensures) (c .before .three-zeros .ensures) (c .both3 .ensures)
 
 pub plain-ok-spec : {M : Type 1} → statement M
 plain-ok-spec =
@@ -68,7 +68,7 @@ plain-ok-spec =
     in-range-requires
     number-rises-requires
     both-requires
-    wide32-requires
+    byte32-requires
     in-range-requires-2
     both-requires-2
     mul-three-zeros

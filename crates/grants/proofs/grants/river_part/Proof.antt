@@ -1,17 +1,22 @@
 -- `grants::grants::river_part` meets its contract. Assumes nothing.
-use mathlib.Core.Path.{sym, _∙_}
+use mathlib.Core.Path.{_≡_, refl, sym, _∙_}
+use mathlib.Core.Bool.{false}
 use native.Mathlib.Omega.{arith}
 use borrow.Author.Needs.{needs}
 use denote.Ref.{now}
+use Rattle.records.proofs.KindArms.{but-instream}
+use Rattle.grants.specs.Stages.{isInstream}
 use Rattle.grants.proofs.grants.river_part.Statement.{statement}
 use Rattle.grants.proofs.grants.river_part.Tie as tie
-use Rattle.general.proofs.Tests.{eqb-other}
 use Rattle.grants.proofs.Looks.{own-in, called-in, low-in, low-on, gave-nothing, gave-instream, gave-called, gave-low}
 
 returns : tie.Need-returns
 returns c =
     let b = c .before .before in
     gave-nothing (now (b .args .stations)) (now (b .args .below)) (now (b .args .available)) (now (b .args .short)) (b .args .kind) (b .args .row) (b .args .demand) (c .if1 .taken) _
+
+enum-told : tie.Need-enum-told
+enum-told c = search needs
 
 mul-lesser : tie.Need-mul-lesser
 mul-lesser c = search needs
@@ -24,13 +29,13 @@ lesser-requires c κs = search needs
 
 station-number-requires : tie.Need-station-number-requires
 station-number-requires c κs =
-    let b = c .before .before .before .before .before in
+    let b = c .before .before .before .before .before .before in
     own-in (now (b .args .stations)) (now (b .args .below)) (b .args .row) (b .pre)
 
 returns-2 : tie.Need-returns-2
 returns-2 c =
-    let b = c .before .before .before .before .before .before in
-    gave-instream (now (b .args .stations)) (now (b .args .below)) (now (b .args .available)) (now (b .args .short)) (b .args .kind) (b .args .row) (b .args .demand) _ _ (c .before .before .before .if2 .taken) (c .before .lesser .ensures .0) (c .station-number .ensures)
+    let b = c .before .before .before .before .before .before .before in
+    gave-instream (now (b .args .stations)) (now (b .args .below)) (now (b .args .available)) (now (b .args .short)) (b .args .kind) (b .args .row) (b .args .demand) _ _ (c .before .before .before .enum-told .given .1) (c .before .lesser .ensures .0) (c .station-number .ensures)
 
 look-requires : tie.Need-look-requires
 look-requires c κs = search needs
@@ -67,18 +72,21 @@ station-number-requires-3 c κs =
 returns-3 : tie.Need-returns-3
 returns-3 c =
     let b = c .before .before .before .before .before .before .before .before in
-    gave-called (now (b .args .stations)) (now (b .args .below)) (now (b .args .available)) (now (b .args .short)) (b .args .kind) (b .args .row) (b .args .demand) (eqb-other (b .args .kind) 3 (c .before .before .before .before .before .if2 .left)) (c .before .before .before .before .look .result) (c .before .before .before .before .look .ensures) (c .before .before .seen .given .0 .0) _ (c .before .before .seen .given .1) (c .station-number2 .ensures)
+    let k : isInstream (b .args .kind) ≡ false = but-instream (λ k. isInstream k ≡ false) refl refl refl (b .args .kind) (c .before .before .before .before .before .match .keys2) in
+    gave-called (now (b .args .stations)) (now (b .args .below)) (now (b .args .available)) (now (b .args .short)) (b .args .kind) (b .args .row) (b .args .demand) k (c .before .before .before .before .look .result) (c .before .before .before .before .look .ensures) (c .before .before .seen .given .0 .0) _ (c .before .before .seen .given .1) (c .station-number2 .ensures)
 
 returns-4 : tie.Need-returns-4
 returns-4 c =
     let b = c .before .before .before .before .before .before .before .before .before .before in
-    gave-low (now (b .args .stations)) (now (b .args .below)) (now (b .args .available)) (now (b .args .short)) (b .args .kind) (b .args .row) (b .args .demand) (eqb-other (b .args .kind) 3 (c .before .before .before .before .before .before .before .if2 .left)) (c .before .before .before .before .before .before .look .result) (c .before .before .before .before .before .before .look .ensures) (c .before .before .before .before .seen2 .given .0 .0) _ _ (c .before .before .before .before .seen2 .given .1) (c .before .lesser2 .ensures .0) (c .station-number3 .ensures)
+    let k : isInstream (b .args .kind) ≡ false = but-instream (λ k. isInstream k ≡ false) refl refl refl (b .args .kind) (c .before .before .before .before .before .before .before .match .keys2) in
+    gave-low (now (b .args .stations)) (now (b .args .below)) (now (b .args .available)) (now (b .args .short)) (b .args .kind) (b .args .row) (b .args .demand) k (c .before .before .before .before .before .before .look .result) (c .before .before .before .before .before .before .look .ensures) (c .before .before .before .before .seen2 .given .0 .0) _ _ (c .before .before .before .before .seen2 .given .1) (c .before .lesser2 .ensures .0) (c .station-number3 .ensures)
 
 pub river-part-spec : {M : Type 1} → statement M
 river-part-spec =
     tie.close
     (tie.spec
     returns
+    enum-told
     mul-lesser
     element-copy-out-lesser
     lesser-requires

@@ -41,13 +41,13 @@ unfolding amountAt
 returns c =
     let b = c .before .before .before .before .before .before .before in
     let e : c .before .before .before .before .before .wide16 .result ≡ (rightRecord (now (b .args .rights)) (b .args .i)) .months = c .before .before .before .before .before .wide16 .ensures .0 ∙ ap (λ (x : RightRecord). x .months) (b .pre .2) in
-    amount-yes (now (b .args .rights)) (b .args .i) (b .args .m) _ 0 (c .before .before .before .before .before .wide16 .result) e (ap (λ (x : ℕ). Rattle.rules.specs.Turn.bit (c .before .before .before .before .before .wide16 .result) x) (sym (c .before .before .before .before .wide-size .ensures)) ∙ sym (c .before .before .before .bit-of .ensures) ∙ c .before .before .if1 .taken) (c .wide32 .ensures .0 ∙ c .before .le32 .ensures)
+    amount-yes (now (b .args .rights)) (b .args .i) (b .args .m) _ 0 (c .before .before .before .before .before .wide16 .result) e (ap (λ (x : ℕ). Rattle.general.specs.Tests.bit (c .before .before .before .before .before .wide16 .result) x) (sym (c .before .before .before .before .wide-size .ensures)) ∙ sym (c .before .before .before .bit-of .ensures) ∙ c .before .before .if1 .taken) (c .wide32 .ensures .0 ∙ c .before .le32 .ensures)
 
 returns-2 : tie.Need-returns-2
 returns-2 c =
     let b = c .before .before .before .before .before in
     let e : c .before .before .before .wide16 .result ≡ (rightRecord (now (b .args .rights)) (b .args .i)) .months = c .before .before .before .wide16 .ensures .0 ∙ ap (λ (x : RightRecord). x .months) (b .pre .2) in
-    amount-no (now (b .args .rights)) (b .args .i) (b .args .m) (c .before .before .before .wide16 .result) e (ap (λ (x : ℕ). Rattle.rules.specs.Turn.bit (c .before .before .before .wide16 .result) x) (sym (c .before .before .wide-size .ensures)) ∙ sym (c .before .bit-of .ensures) ∙ c .if1 .left)
+    amount-no (now (b .args .rights)) (b .args .i) (b .args .m) (c .before .before .before .wide16 .result) e (ap (λ (x : ℕ). Rattle.general.specs.Tests.bit (c .before .before .before .wide16 .result) x) (sym (c .before .before .wide-size .ensures)) ∙ sym (c .before .bit-of .ensures) ∙ c .if1 .left)
 
 pub scheduled-spec : {M : Type 1} → statement M
 scheduled-spec =

@@ -1,16 +1,22 @@
 -- `grants::stages::take` meets its contract. Assumes nothing.
+use mathlib.Core.Path.{_≡_, refl}
+use mathlib.Core.Bool.{false}
 use native.Mathlib.Omega.{arith}
 use borrow.Author.Needs.{needs}
 use denote.Ref.{now}
+use Rattle.records.proofs.KindArms.{but-instream}
+use Rattle.grants.specs.Stages.{isInstream}
 use Rattle.grants.proofs.stages.take.Statement.{statement}
 use Rattle.grants.proofs.stages.take.Tie as tie
-use Rattle.general.proofs.Tests.{eqb-other}
 use Rattle.grants.proofs.RightKinds.{taken-nothing, taken-instream, taken-along}
 
 returns : tie.Need-returns
 returns c =
     let b = c .before in
-    taken-nothing (b .args .kind) (b .args .d) (now (b .args .below)) (b .args .row) (now (b .args .flow)) (now (b .args .available)) (c .if1 .taken)
+    taken-nothing (b .args .d) (now (b .args .below)) (b .args .row) (now (b .args .flow)) (now (b .args .available)) (b .args .kind) (c .if1 .taken)
+
+enum-told : tie.Need-enum-told
+enum-told c = search needs
 
 mul-available : tie.Need-mul-available
 mul-available c = search needs
@@ -29,24 +35,26 @@ element-write-available c = search needs
 
 returns-2 : tie.Need-returns-2
 returns-2 c =
-    let b = c .before .before .before in
-    taken-instream (b .args .kind) (b .args .d) (now (b .args .below)) (b .args .row) (now (b .args .flow)) (now (b .args .available)) (c .before .if2 .taken) (omega (arith, b .pre .on, b .pre .places)) (b .pre .enough)
+    let b = c .before .before .before .before in
+    taken-instream (b .args .d) (now (b .args .below)) (b .args .row) (now (b .args .flow)) (now (b .args .available)) (b .args .kind) (c .before .enum-told .given .1) (omega (arith, b .pre .on, b .pre .places)) (b .pre .enough)
 
 divert-requires : tie.Need-divert-requires
 divert-requires c κs =
     let b = c .before .before .before .before in
-    b .pre .divert-ok (eqb-other (b .args .kind) 3 (c .before .before .if2 .left))
+    b .pre .divert-ok (but-instream (λ k. isInstream k ≡ false) refl refl refl (b .args .kind) (c .before .before .match .keys2))
 
 returns-3 : tie.Need-returns-3
 returns-3 c =
     let b = c .before .before .before .before .before in
-    taken-along (b .args .kind) (b .args .d) (now (b .args .below)) (b .args .row) (now (b .args .flow)) (now (b .args .available)) _ _ (c .before .before .before .if2 .left) (c .divert .ensures)
+    let k : isInstream (b .args .kind) ≡ false = but-instream (λ k. isInstream k ≡ false) refl refl refl (b .args .kind) (c .before .before .before .match .keys2) in
+    taken-along (b .args .d) (now (b .args .below)) (b .args .row) (now (b .args .flow)) (now (b .args .available)) _ _ (c .divert .ensures) (b .args .kind) k
 
 pub take-spec : {M : Type 1} → statement M
 take-spec =
     tie.close
     (tie.spec
     returns
+    enum-told
     mul-available
     element-copy-out-available
     sub-available

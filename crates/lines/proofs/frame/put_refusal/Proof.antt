@@ -22,7 +22,7 @@ same-length c = search needs
 returns : tie.Need-returns
 returns c =
     let s = c .before .before .before .before .before .before .before .before .before .before .before .before .before .before .args in
-    refusal-put (s .number) (s .place) (c .before .before .before .before .before .before .before .before .before .before .put-bytes .ensures) (c .before .before .before .before .before .before .put-field .ensures) (c .before .before .put-field2 .ensures)
+    refusal-put (s .answer .number) (s .answer .place) (c .before .before .before .before .before .before .before .before .before .before .put-bytes .ensures) (c .before .before .before .before .before .before .put-field .ensures) (c .before .before .put-field2 .ensures)
 
 pub put-refusal-spec : {M : Type 1} → statement M
 put-refusal-spec =

@@ -5,35 +5,26 @@ use borrow.Author.Needs.{needs}
 use Rattle.lines.proofs.month.put_month.Statement.{statement}
 use Rattle.lines.proofs.month.put_month.Tie as tie
 
-mul-first : tie.Need-mul-first
-mul-first c = search needs
-
 put-rights-requires : tie.Need-put-rights-requires
 put-rights-requires c κs = search needs
 
-sub-outflow : tie.Need-sub-outflow
-sub-outflow c = search needs
+sub-flow-place : tie.Need-sub-flow-place
+sub-flow-place c = search needs
+
+flow-place-requires : tie.Need-flow-place-requires
+flow-place-requires c κs = search needs
 
 mul-outflow : tie.Need-mul-outflow
 mul-outflow c = search needs
 
-add-outflow : tie.Need-add-outflow
-add-outflow c = search needs
-
-mul-outflow-2 : tie.Need-mul-outflow-2
-mul-outflow-2 c = search needs
-
 shared-slice-read-outflow : tie.Need-shared-slice-read-outflow
 shared-slice-read-outflow c = search needs
 
-mul-evaporation-sum : tie.Need-mul-evaporation-sum
-mul-evaporation-sum c = search needs
-
-add-evaporation-sum : tie.Need-add-evaporation-sum
-add-evaporation-sum c = search needs
+rows-end-requires : tie.Need-rows-end-requires
+rows-end-requires c κs = search needs
 
 evaporation-sum-requires : tie.Need-evaporation-sum-requires
-evaporation-sum-requires c κs = search needs
+evaporation-sum-requires c κs = rw (c .rows-end .ensures) (search needs)
 
 storage-sum-requires : tie.Need-storage-sum-requires
 storage-sum-requires c κs = search needs
@@ -49,22 +40,19 @@ same-length c = search needs
 
 returns : tie.Need-returns
 returns c =
-    let s = c .before .before .before .before .before .before .before .before .before .before .before .before .before .before .before .before .before .before .args in
-    λ ps. month-put (now (s .stations)) (now (s .reservoirs)) ps (now (s .rights)) (now (s .report)) (now (s .board)) (now (s .out)) (c .before .before .before .before .before .before .before .before .before .before .put-rights .last .0) _ (s .month) (s .at) _ _ _ _ _ (c .before .before .before .before .before .before .before .before .before .before .put-rights .ensures) (c .before .before .before .before .before .before .evaporation-sum .ensures) (c .before .before .before .before .before .storage-sum .ensures) (c .before .before .before .before .due-sum .ensures) (c .before .before .put-end .ensures)
+    let s = c .before .before .before .before .before .before .before .before .before .before .before .before .before .before .before .before .before .before .before .before .args in
+    λ ps. month-put (now (s .stations)) (now (s .reservoirs)) ps (now (s .rights)) (now (s .report)) (now (s .board)) (now (s .out)) (c .before .before .before .before .before .before .before .before .before .before .before .before .put-rights .last .0) _ (s .month) (s .at) _ _ _ _ _ (c .before .before .before .before .before .before .before .before .before .before .before .before .put-rights .ensures) (rw (c .before .before .before .before .before .before .before .rows-end .ensures) at (c .before .before .before .before .before .before .evaporation-sum .ensures)) (c .before .before .before .before .before .storage-sum .ensures) (c .before .before .before .before .due-sum .ensures) (rw (c .before .before .before .before .before .before .before .before .before .flow-place .ensures) at (c .before .before .put-end .ensures))
 
 pub put-month-spec : {M : Type 1} → statement M
 put-month-spec =
     tie.close
     (tie.spec
-    mul-first
     put-rights-requires
-    sub-outflow
+    sub-flow-place
+    flow-place-requires
     mul-outflow
-    add-outflow
-    mul-outflow-2
     shared-slice-read-outflow
-    mul-evaporation-sum
-    add-evaporation-sum
+    rows-end-requires
     evaporation-sum-requires
     storage-sum-requires
     due-sum-requires

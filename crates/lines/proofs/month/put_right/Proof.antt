@@ -15,14 +15,14 @@ mul-le32 c = search needs
 le32-requires : tie.Need-le32-requires
 le32-requires c κs = search needs
 
-wide-requires : tie.Need-wide-requires
-wide-requires c κs = search needs
+wide32-requires : tie.Need-wide32-requires
+wide32-requires c κs = search needs
 
 put-field-requires-2 : tie.Need-put-field-requires-2
 put-field-requires-2 c κs = search needs
 
-mul-first : tie.Need-mul-first
-mul-first c = search needs
+line-place-requires : tie.Need-line-place-requires
+line-place-requires c κs = search needs
 
 mul-put-four : tie.Need-mul-put-four
 mul-put-four c = search needs
@@ -65,8 +65,8 @@ same-length c = search needs
 
 returns : tie.Need-returns
 returns c =
-    let s = c .before .before .before .before .before .before .before .before .before .before .before .before .before .before .before .before .before .before .before .before .before .args in
-    right-put (s .month) (now (s .rights)) (now (s .report)) (s .i) _ (c .before .before .before .before .before .before .before .before .before .before .before .wide .ensures ∙ c .before .before .before .before .before .before .before .before .before .before .before .before .le32 .ensures) (c .before .before .before .before .before .before .before .before .before .before .before .before .before .before .before .before .put-field .ensures) (c .before .before .before .before .before .before .before .before .before .before .put-field2 .ensures) (c .before .before .put-four .ensures)
+    let s = c .before .before .before .before .before .before .before .before .before .before .before .before .before .before .before .before .before .before .before .before .before .before .args in
+    right-put (s .month) (now (s .rights)) (now (s .report)) (s .i) _ (c .before .before .before .before .before .before .before .before .before .before .before .before .wide32 .ensures .0 ∙ c .before .before .before .before .before .before .before .before .before .before .before .before .before .le32 .ensures) (c .before .before .before .before .before .before .before .before .before .before .before .before .before .before .before .before .before .put-field .ensures) (c .before .before .before .before .before .before .before .before .before .before .before .put-field2 .ensures) (rw (c .before .before .before .before .before .before .before .before .line-place .ensures) at (c .before .before .put-four .ensures))
 
 pub put-right-spec : {M : Type 1} → statement M
 put-right-spec =
@@ -75,9 +75,9 @@ put-right-spec =
     put-field-requires
     mul-le32
     le32-requires
-    wide-requires
+    wide32-requires
     put-field-requires-2
-    mul-first
+    line-place-requires
     mul-put-four
     shared-slice-read-put-four
     add-put-four

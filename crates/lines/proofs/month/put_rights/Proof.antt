@@ -22,7 +22,7 @@ loop-holds : tie.Need-loop-holds Inv-loop μ-loop
 loop-holds c = let s = c .before .before .before .args in (omega arith, refl, lines-none (s .month) (now (s .rights)) (now (s .report)) (now (s .out)) (s .from))
 
 put-right-requires : tie.Need-put-right-requires Inv-loop μ-loop
-put-right-requires c κs = let l = c .before .before .loop in (omega (arith, c .before .before .before .before .before .before .pre, l .inv .1, l .inv .2 .within), omega arith, c .before .before .before .before .before .before .pre .2)
+put-right-requires c κs = let l = c .before .before .loop in (omega (arith, c .before .before .before .before .before .before .pre, l .inv .1, l .inv .2 .within), omega arith, c .before .before .before .before .before .before .pre .1, c .before .before .before .before .before .before .pre .2)
 
 add-i : tie.Need-add-i Inv-loop μ-loop
 add-i c = search needs

@@ -12,12 +12,6 @@ put-header-requires c κs = search needs
 fresh-requires : tie.Need-fresh-requires
 fresh-requires c κs = search needs
 
-cast-put-refusal : tie.Need-cast-put-refusal
-cast-put-refusal c = search needs
-
-cast-put-refusal-2 : tie.Need-cast-put-refusal-2
-cast-put-refusal-2 c = search needs
-
 put-refusal-requires : tie.Need-put-refusal-requires
 put-refusal-requires c κs = search needs
 
@@ -29,8 +23,8 @@ same-length-2 c = search needs
 
 returns : tie.Need-returns
 returns c =
-    let s = c .before .before .before .before .before .before .before .before .before .before .before .before .before .before .before .before .before .before .before .args in
-    refused-open (now (s .file)) (now (s .board)) _ (c .before .before .before .before .before .before .before .before .before .before .before .before .before .before .before .before .before .before .before .pre .0) _ (c .before .before .before .before .before .before .before .before .before .before .fresh .ensures) (now (s .out)) _ _ (c .before .before .before .before .before .before .before .before .before .before .before .before .before .before .put-header .ensures) (c .before .before .before .before .before .before .if1 .taken) _ _ (c .before .before .put-refusal .ensures)
+    let s = c .before .before .before .before .before .before .before .before .before .before .before .before .before .before .before .before .before .args in
+    refused-open (now (s .file)) (now (s .board)) _ (c .before .before .before .before .before .before .before .before .before .before .before .before .before .before .before .before .before .pre .0) _ (c .before .before .before .before .before .before .before .before .fresh .ensures) (now (s .out)) _ _ (c .before .before .before .before .before .before .before .before .before .before .before .before .put-header .ensures) (c .before .before .before .before .if1 .taken) _ _ (c .before .before .put-refusal .ensures)
 
 same-length-3 : tie.Need-same-length-3
 same-length-3 c = search needs
@@ -49,8 +43,6 @@ open-listing-spec =
     (tie.spec
     put-header-requires
     fresh-requires
-    cast-put-refusal
-    cast-put-refusal-2
     put-refusal-requires
     same-length
     same-length-2

@@ -19,6 +19,9 @@ section-requires c κs = search needs
 mul-if2 : tie.Need-mul-if2
 mul-if2 c = search needs
 
+tell-requires : tie.Need-tell-requires
+tell-requires c κs = search needs
+
 refuse-requires : tie.Need-refuse-requires
 refuse-requires c κs = search needs
 
@@ -27,8 +30,8 @@ same-length c = search needs
 
 returns-2 : tie.Need-returns-2
 returns-2 c =
-    let s = c .before .before .before .before .before .before .before .before .before .before .before .before .args in
-    part-short (now (s .file)) (now (s .part)) (s .from) (now (s .board)) (now (s .report)) (now (s .out)) (c .before .before .before .before .before .before .before .before .before .before .before .before .pre) _ (c .before .before .before .before .before .section .ensures) (λ z. omega (arith, z, c .before .before .before .before .before .before .if1 .left)) (c .before .before .before .before .if2 .taken) _ _ (c .before .before .refuse .ensures)
+    let s = c .before .before .before .before .before .before .before .before .before .before .before .before .before .args in
+    part-short (now (s .file)) (now (s .part)) (s .from) (now (s .board)) (now (s .report)) (now (s .out)) (c .before .before .before .before .before .before .before .before .before .before .before .before .before .pre) _ (c .before .before .before .before .before .before .section .ensures) (λ z. omega (arith, z, c .before .before .before .before .before .before .before .if1 .left)) (c .before .before .before .before .before .if2 .taken) _ _ _ (c .before .before .before .tell .ensures) (c .before .before .refuse .ensures)
 
 array-borrow-prefix-runoff : tie.Need-array-borrow-prefix-runoff
 array-borrow-prefix-runoff c =
@@ -65,6 +68,7 @@ list-part-spec =
     returns
     section-requires
     mul-if2
+    tell-requires
     refuse-requires
     same-length
     returns-2

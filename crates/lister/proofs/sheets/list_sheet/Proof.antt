@@ -22,8 +22,8 @@ section-requires-4 c κs = search needs
 decode-requires : tie.Need-decode-requires
 decode-requires c κs = search needs
 
-go-on-requires : tie.Need-go-on-requires
-go-on-requires c κs =
+run-sheet-requires : tie.Need-run-sheet-requires
+run-sheet-requires c κs =
     let s = c .before .before .before .before .before .before .before .before .before .before .before .before .before .before .before .before .before .args in
     may-go (now (s .file)) _ _ _ _ (c .before .before .before .before .before .before .before .before .before .before .section .ensures) (c .before .before .before .before .before .before .before .before .before .section2 .ensures) (c .before .before .before .before .before .before .before .before .section3 .ensures) (c .before .before .before .before .before .before .before .section4 .ensures) (now (s .sheet)) (s .from) (now (s .board)) (now (s .report)) (now (s .out)) (c .before .before .before .before .before .before .before .before .before .before .before .before .before .before .before .before .before .pre .0) (c .before .before .before .before .before .before .before .before .before .before .before .before .before .before .before .before .before .pre .1) (length (now (s .runoff))) (c .before .before .before .before .before .before .before .before .before .before .before .before .before .before .before .before .before .pre .2) _ (c .before .before .before .before .before .decode .ensures)
 
@@ -45,12 +45,12 @@ same-length-4 c = search needs
 returns : tie.Need-returns
 returns c =
     let s = c .before .before .before .before .before .before .before .before .before .before .before .before .before .before .before .before .before .before .before .before .before .before .before .before .before .before .before .before .args in
-    sheet-refused (now (s .file)) _ _ _ _ (c .before .before .before .before .before .before .before .before .before .before .before .before .before .before .before .before .before .before .before .before .before .section .ensures) (c .before .before .before .before .before .before .before .before .before .before .before .before .before .before .before .before .before .before .before .before .section2 .ensures) (c .before .before .before .before .before .before .before .before .before .before .before .before .before .before .before .before .before .before .before .section3 .ensures) (c .before .before .before .before .before .before .before .before .before .before .before .before .before .before .before .before .before .before .section4 .ensures) (now (s .sheet)) (s .from) (now (s .board)) (now (s .report)) (now (s .out)) (c .before .before .before .before .before .before .before .before .before .before .before .before .before .before .before .before .before .before .before .before .before .before .before .before .before .before .before .before .pre .0) (c .before .before .before .before .before .before .before .before .before .before .before .before .before .before .before .before .before .before .before .before .before .before .before .before .before .before .before .before .pre .1) (length (now (s .runoff))) (c .before .before .before .before .before .before .before .before .before .before .before .before .before .before .before .before .before .before .before .before .before .before .before .before .before .before .before .before .pre .2) _ (c .before .before .before .before .before .before .before .before .before .before .before .before .before .before .before .before .decode .ensures) _ _ _ _ (c .before .before .before .before .before .before .before .before .before .before .go-on .ensures) (c .before .before .before .before .if1 .taken) _ _ (c .before .before .refuse .ensures)
+    sheet-refused (now (s .file)) _ _ _ _ (c .before .before .before .before .before .before .before .before .before .before .before .before .before .before .before .before .before .before .before .before .before .section .ensures) (c .before .before .before .before .before .before .before .before .before .before .before .before .before .before .before .before .before .before .before .before .section2 .ensures) (c .before .before .before .before .before .before .before .before .before .before .before .before .before .before .before .before .before .before .before .section3 .ensures) (c .before .before .before .before .before .before .before .before .before .before .before .before .before .before .before .before .before .before .section4 .ensures) (now (s .sheet)) (s .from) (now (s .board)) (now (s .report)) (now (s .out)) (c .before .before .before .before .before .before .before .before .before .before .before .before .before .before .before .before .before .before .before .before .before .before .before .before .before .before .before .before .pre .0) (c .before .before .before .before .before .before .before .before .before .before .before .before .before .before .before .before .before .before .before .before .before .before .before .before .before .before .before .before .pre .1) (length (now (s .runoff))) (c .before .before .before .before .before .before .before .before .before .before .before .before .before .before .before .before .before .before .before .before .before .before .before .before .before .before .before .before .pre .2) _ (c .before .before .before .before .before .before .before .before .before .before .before .before .before .before .before .before .decode .ensures) _ _ _ (c .before .before .before .before .before .before .before .before .before .before .run-sheet .ensures) (c .before .before .before .before .if1 .taken) _ _ (c .before .before .refuse .ensures)
 
 put-month-requires : tie.Need-put-month-requires
 put-month-requires c κs =
     let s = c .before .before .before .before .before .before .before .before .before .before .before .before .before .before .before .before .before .before .before .before .before .before .before .before .before .before .before .args in
-    may-list (now (s .file)) _ _ _ _ (c .before .before .before .before .before .before .before .before .before .before .before .before .before .before .before .before .before .before .before .before .section .ensures) (c .before .before .before .before .before .before .before .before .before .before .before .before .before .before .before .before .before .before .before .section2 .ensures) (c .before .before .before .before .before .before .before .before .before .before .before .before .before .before .before .before .before .before .section3 .ensures) (c .before .before .before .before .before .before .before .before .before .before .before .before .before .before .before .before .before .section4 .ensures) (now (s .sheet)) (s .from) (now (s .board)) (now (s .report)) (now (s .out)) (c .before .before .before .before .before .before .before .before .before .before .before .before .before .before .before .before .before .before .before .before .before .before .before .before .before .before .before .pre .0) (c .before .before .before .before .before .before .before .before .before .before .before .before .before .before .before .before .before .before .before .before .before .before .before .before .before .before .before .pre .1) (length (now (s .runoff))) (c .before .before .before .before .before .before .before .before .before .before .before .before .before .before .before .before .before .before .before .before .before .before .before .before .before .before .before .pre .2) _ (c .before .before .before .before .before .before .before .before .before .before .before .before .before .before .before .decode .ensures) _ _ _ _ (c .before .before .before .before .before .before .before .before .before .go-on .ensures) (omega (arith, c .before .before .before .if1 .left)) (c .before .before .before .before .before .before .before .before .before .go-on .kept .1 .1 .1 .1 .1 .0) (c .before .before .before .before .before .before .before .before .before .go-on .kept .1 .1 .1 .1 .1 .1 .0)
+    may-list (now (s .file)) _ _ _ _ (c .before .before .before .before .before .before .before .before .before .before .before .before .before .before .before .before .before .before .before .before .section .ensures) (c .before .before .before .before .before .before .before .before .before .before .before .before .before .before .before .before .before .before .before .section2 .ensures) (c .before .before .before .before .before .before .before .before .before .before .before .before .before .before .before .before .before .before .section3 .ensures) (c .before .before .before .before .before .before .before .before .before .before .before .before .before .before .before .before .before .section4 .ensures) (now (s .sheet)) (s .from) (now (s .board)) (now (s .report)) (now (s .out)) (c .before .before .before .before .before .before .before .before .before .before .before .before .before .before .before .before .before .before .before .before .before .before .before .before .before .before .before .pre .0) (c .before .before .before .before .before .before .before .before .before .before .before .before .before .before .before .before .before .before .before .before .before .before .before .before .before .before .before .pre .1) (length (now (s .runoff))) (c .before .before .before .before .before .before .before .before .before .before .before .before .before .before .before .before .before .before .before .before .before .before .before .before .before .before .before .pre .2) _ (c .before .before .before .before .before .before .before .before .before .before .before .before .before .before .before .decode .ensures) _ _ _ (c .before .before .before .before .before .before .before .before .before .run-sheet .ensures) (omega (arith, c .before .before .before .if1 .left)) (c .before .before .before .before .before .before .before .before .before .run-sheet .kept .1 .1 .1 .1 .1 .0) (c .before .before .before .before .before .before .before .before .before .run-sheet .kept .1 .1 .1 .1 .1 .1 .0)
 
 add-t32 : tie.Need-add-t32
 add-t32 c = omega (arith, c .before .before .before .before .before .before .before .before .before .before .before .before .before .before .before .before .before .before .before .before .before .before .before .before .before .before .before .before .before .before .before .pre .0 .counted)
@@ -70,7 +70,7 @@ same-length-8 c = search needs
 returns-2 : tie.Need-returns-2
 returns-2 c =
     let s = c .before .before .before .before .before .before .before .before .before .before .before .before .before .before .before .before .before .before .before .before .before .before .before .before .before .before .before .before .before .before .before .args in
-    sheet-listed (now (s .file)) _ _ _ _ (c .before .before .before .before .before .before .before .before .before .before .before .before .before .before .before .before .before .before .before .before .before .before .before .before .section .ensures) (c .before .before .before .before .before .before .before .before .before .before .before .before .before .before .before .before .before .before .before .before .before .before .before .section2 .ensures) (c .before .before .before .before .before .before .before .before .before .before .before .before .before .before .before .before .before .before .before .before .before .before .section3 .ensures) (c .before .before .before .before .before .before .before .before .before .before .before .before .before .before .before .before .before .before .before .before .before .section4 .ensures) (now (s .sheet)) (s .from) (now (s .board)) (now (s .report)) (now (s .out)) (c .before .before .before .before .before .before .before .before .before .before .before .before .before .before .before .before .before .before .before .before .before .before .before .before .before .before .before .before .before .before .before .pre .0) (c .before .before .before .before .before .before .before .before .before .before .before .before .before .before .before .before .before .before .before .before .before .before .before .before .before .before .before .before .before .before .before .pre .1) (length (now (s .runoff))) (c .before .before .before .before .before .before .before .before .before .before .before .before .before .before .before .before .before .before .before .before .before .before .before .before .before .before .before .before .before .before .before .pre .2) _ (c .before .before .before .before .before .before .before .before .before .before .before .before .before .before .before .before .before .before .before .decode .ensures) _ _ _ _ (c .before .before .before .before .before .before .before .before .before .before .before .before .before .go-on .ensures) (omega (arith, c .before .before .before .before .before .before .before .if1 .left)) _ _ (c .before .before .before .put-month .ensures)
+    sheet-listed (now (s .file)) _ _ _ _ (c .before .before .before .before .before .before .before .before .before .before .before .before .before .before .before .before .before .before .before .before .before .before .before .before .section .ensures) (c .before .before .before .before .before .before .before .before .before .before .before .before .before .before .before .before .before .before .before .before .before .before .before .section2 .ensures) (c .before .before .before .before .before .before .before .before .before .before .before .before .before .before .before .before .before .before .before .before .before .before .section3 .ensures) (c .before .before .before .before .before .before .before .before .before .before .before .before .before .before .before .before .before .before .before .before .before .section4 .ensures) (now (s .sheet)) (s .from) (now (s .board)) (now (s .report)) (now (s .out)) (c .before .before .before .before .before .before .before .before .before .before .before .before .before .before .before .before .before .before .before .before .before .before .before .before .before .before .before .before .before .before .before .pre .0) (c .before .before .before .before .before .before .before .before .before .before .before .before .before .before .before .before .before .before .before .before .before .before .before .before .before .before .before .before .before .before .before .pre .1) (length (now (s .runoff))) (c .before .before .before .before .before .before .before .before .before .before .before .before .before .before .before .before .before .before .before .before .before .before .before .before .before .before .before .before .before .before .before .pre .2) _ (c .before .before .before .before .before .before .before .before .before .before .before .before .before .before .before .before .before .before .before .decode .ensures) _ _ _ (c .before .before .before .before .before .before .before .before .before .before .before .before .before .run-sheet .ensures) (omega (arith, c .before .before .before .before .before .before .before .if1 .left)) _ _ (c .before .before .before .put-month .ensures)
 
 pub list-sheet-spec : {M : Type 1} → statement M
 list-sheet-spec =
@@ -81,7 +81,7 @@ list-sheet-spec =
     section-requires-3
     section-requires-4
     decode-requires
-    go-on-requires
+    run-sheet-requires
     refuse-requires
     same-length
     same-length-2

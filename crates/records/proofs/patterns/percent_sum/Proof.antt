@@ -6,7 +6,7 @@ use borrow.Author.Needs.{needs}
 use denote.Ref.{now}
 use Rattle.general.proofs.Sums.{sumTo-same}
 use Rattle.general.proofs.Tables.{sum-tab}
-use Rattle.layout.specs.Bytes.{byteAt, byteSum}
+use Rattle.numbers.specs.Bytes.{byteAt, byteSum}
 use Rattle.records.specs.Records.{percentAt, patternOf}
 use Rattle.records.proofs.patterns.percent_sum.Statement.{statement}
 use Rattle.records.proofs.patterns.percent_sum.Tie as tie

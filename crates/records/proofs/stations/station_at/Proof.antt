@@ -5,7 +5,7 @@ use Prim.Native.Nat.{ℕ, _+_, _*_}
 use borrow.Author.Needs.{needs}
 use denote.Ref.{now}
 use Rattle.records.specs.declared.stations.StationRecord.{StationRecord}
-use Rattle.layout.specs.Bytes.{byteAt, le32At}
+use Rattle.numbers.specs.Bytes.{byteAt, le32At}
 use Rattle.records.specs.Records.{stationRecord}
 use Rattle.records.proofs.stations.station_at.Statement.{statement}
 use Rattle.records.proofs.stations.station_at.Tie as tie

@@ -86,7 +86,7 @@ loop-again c =
     let s = c .before .before .before .before .before .before .before .before .before .before .before .before .before .before .before .before .before .before .before .before .before .before .before .before .before .before .before .before .args in
     let l = c .before .before .before .before .before .before .before .before .before .before .before .before .before .before .before .before .before .before .before .before .before .loop in
     let g = c .before .before .before .before .before .before .before .before .before .before .before .before .before .before .before .before .before .before .read-block in
-    (search needs, search needs, search needs, search needs, c .before .before .before .before .before .before .before .before .before .before .before .list-read .ensures .going, not-false _ (c .if2 .left), fewer (now (s .file)) (s .size) (now (s .block)) (s .from) (now (s .board)) (now (s .report)) (now (s .out)) (c .before .before .before .before .before .before .before .before .before .before .before .before .before .before .before .before .before .before .before .before .before .before .before .before .before .before .before .before .pre) (l .p) (l .blocks) (l .board) (l .report) (l .out) (l .inv .4) (l .inv .5) (l .inv .6) (omega arith) (g .result) (g .last .1 .1 .1 .0) (g .kept .1 .1 .1 .0 ∙ l .inv .0) (omega (arith, g .ensures, g .kept .1 .1 .1 .0)) _ _ _ _ (c .before .before .before .before .before .before .before .before .before .before .before .list-read .ensures))
+    (search needs, search needs, search needs, search needs, c .before .before .before .before .before .before .before .before .before .before .before .list-read .ensures .going, not-false _ (c .if2 .left), fewer (now (s .file)) (s .size) (now (s .block)) (s .from) (now (s .board)) (now (s .report)) (now (s .out)) (c .before .before .before .before .before .before .before .before .before .before .before .before .before .before .before .before .before .before .before .before .before .before .before .before .before .before .before .before .pre) (l .p) (l .blocks) (l .board) (l .report) (l .out) (l .inv .4) (l .inv .5) (l .inv .6) (omega (arith, c .before .before .before .before .before .before .before .before .before .before .before .before .before .before .before .before .before .before .before .before .loop-test .taken)) (g .result) (g .last .1 .1 .1 .0) (g .kept .1 .1 .1 .0 ∙ l .inv .0) (omega (arith, g .ensures, g .kept .1 .1 .1 .0)) _ _ _ _ (c .before .before .before .before .before .before .before .before .before .before .before .list-read .ensures))
 
 same-length-9 : tie.Need-same-length-9 Inv-loop μ-loop
 same-length-9 c = search needs

@@ -3,7 +3,7 @@ use mathlib.Core.Path.{sym, ap, _∙_}
 use Prim.Native.Nat.{_-_}
 use denote.Ref.{now}
 use Rattle.turns.specs.State.{whyOf, namedBy}
-use Rattle.turns.specs.Lines.{homeNumber}
+use Rattle.turns.specs.Lines.{reservoirStation}
 use borrow.Author.Needs.{needs}
 use Rattle.turns.proofs.lines.name.Statement.{statement}
 use Rattle.turns.proofs.lines.name.Tie as tie
@@ -26,25 +26,25 @@ wide32-requires-2 c κs = search needs
 enum-told-2 : tie.Need-enum-told-2
 enum-told-2 c = search needs
 
-home-number-requires : tie.Need-home-number-requires
+reservoir-station-requires : tie.Need-reservoir-station-requires
 unfolding whyOf
-home-number-requires c κs = c .before .before .before .before .pre (ap whyOf (c .enum-told2 .given .1))
+reservoir-station-requires c κs = c .before .before .before .before .pre (ap whyOf (c .enum-told2 .given .1))
 
 returns : tie.Need-returns
 unfolding namedBy
-returns c = sym (ap (namedBy (homeNumber (now (c .before .before .before .before .args .stations)) (now (c .before .before .before .before .args .reservoirs)) (c .before .before .before .before .args .v))) (c .enum-told .given .1))
+returns c = sym (ap (namedBy (reservoirStation (now (c .before .before .before .before .args .stations)) (now (c .before .before .before .before .args .reservoirs)) (c .before .before .before .before .args .v))) (c .enum-told .given .1))
 
 returns-2 : tie.Need-returns-2
 unfolding namedBy
-returns-2 c = c .wide32 .ensures .0 ∙ sym (ap (namedBy (homeNumber (now (c .before .before .before .before .before .before .args .stations)) (now (c .before .before .before .before .before .before .args .reservoirs)) (c .before .before .before .before .before .before .args .v))) (c .before .before .reason .given .1))
+returns-2 c = c .wide32 .ensures .0 ∙ sym (ap (namedBy (reservoirStation (now (c .before .before .before .before .before .before .args .stations)) (now (c .before .before .before .before .before .before .args .reservoirs)) (c .before .before .before .before .before .before .args .v))) (c .before .before .reason .given .1))
 
 returns-3 : tie.Need-returns-3
 unfolding namedBy
-returns-3 c = c .wide322 .ensures .0 ∙ sym (ap (namedBy (homeNumber (now (c .before .before .before .before .before .before .args .stations)) (now (c .before .before .before .before .before .before .args .reservoirs)) (c .before .before .before .before .before .before .args .v))) (c .before .before .reason2 .given .1))
+returns-3 c = c .wide322 .ensures .0 ∙ sym (ap (namedBy (reservoirStation (now (c .before .before .before .before .before .before .args .stations)) (now (c .before .before .before .before .before .before .args .reservoirs)) (c .before .before .before .before .before .before .args .v))) (c .before .before .reason2 .given .1))
 
 returns-4 : tie.Need-returns-4
 unfolding namedBy
-returns-4 c = c .home-number .ensures ∙ sym (ap (namedBy (homeNumber (now (c .before .before .before .before .before .args .stations)) (now (c .before .before .before .before .before .args .reservoirs)) (c .before .before .before .before .before .args .v))) (c .before .enum-told2 .given .1))
+returns-4 c = c .reservoir-station .ensures ∙ sym (ap (namedBy (reservoirStation (now (c .before .before .before .before .before .args .stations)) (now (c .before .before .before .before .before .args .reservoirs)) (c .before .before .before .before .before .args .v))) (c .before .enum-told2 .given .1))
 
 pub name-spec : {M : Type 1} → statement M
 name-spec =
@@ -56,7 +56,7 @@ name-spec =
     enum-known-reason-2
     wide32-requires-2
     enum-told-2
-    home-number-requires
+    reservoir-station-requires
     returns
     returns-2
     returns-3

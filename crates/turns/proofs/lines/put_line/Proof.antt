@@ -4,7 +4,7 @@ use mathlib.Core.Bool.{Bool, cond}
 use borrow.Author.Tests.{eq-eqb, ne-eqb}
 use Rattle.turns.specs.Lines.{lineOf}
 use native.Mathlib.Omega.{arith}
-use Prim.Native.Nat.{ℕ, _*_, _+_, _-_}
+use Prim.Native.Nat.{ℕ, _+_, _-_}
 use lib.Dec.{eqb}
 use lib.ListN.{set, length-set}
 use denote.Ref.{now}
@@ -15,62 +15,54 @@ use Rattle.turns.proofs.lines.put_line.Tie as tie
 why-requires : tie.Need-why-requires
 why-requires c κs = search needs
 
+line-place-requires : tie.Need-line-place-requires
+line-place-requires c κs = search needs
+
 mul-report : tie.Need-mul-report
 mul-report c = search needs
-
-mul-report-2 : tie.Need-mul-report-2
-mul-report-2 c = search needs
 
 slice-write-report : tie.Need-slice-write-report
 slice-write-report c = search needs
 
-mul-report-3 : tie.Need-mul-report-3
-mul-report-3 c = search needs
-
 add-report : tie.Need-add-report
 add-report c = search needs
 
-mul-report-4 : tie.Need-mul-report-4
-mul-report-4 c = search needs
+mul-report-2 : tie.Need-mul-report-2
+mul-report-2 c = search needs
 
 slice-write-report-2 : tie.Need-slice-write-report-2
 slice-write-report-2 c =
-    let s = c .before .before .args .report .now in
-    let i = c .before .before .args .i in
-    omega (arith, length-set s (4 * i) (c .before .before .args .grant .«from_river»), c .before .before .pre .1)
-
-mul-report-5 : tie.Need-mul-report-5
-mul-report-5 c = search needs
+    let s = c .before .before .before .args .report .now in
+    let p = c .line-place .result in
+    let g = c .before .before .before .args .grant in
+    omega (arith, length-set s p (g .«from_river»), c .before .before .before .pre .1, c .line-place .ensures)
 
 add-report-2 : tie.Need-add-report-2
 add-report-2 c = search needs
 
-mul-report-6 : tie.Need-mul-report-6
-mul-report-6 c = search needs
+mul-report-3 : tie.Need-mul-report-3
+mul-report-3 c = search needs
 
 slice-write-report-3 : tie.Need-slice-write-report-3
 slice-write-report-3 c =
-    let s = c .before .before .args .report .now in
-    let i = c .before .before .args .i in
-    let s1 = set s (4 * i) (c .before .before .args .grant .«from_river») in
-    omega (arith, length-set s (4 * i) (c .before .before .args .grant .«from_river»), length-set s1 (4 * i + 1) (c .before .before .args .grant .«from_storage»), c .before .before .pre .1)
-
-mul-report-7 : tie.Need-mul-report-7
-mul-report-7 c = search needs
+    let s = c .before .before .before .args .report .now in
+    let p = c .line-place .result in
+    let g = c .before .before .before .args .grant in
+    omega (arith, length-set s p (g .«from_river»), length-set (set s p (g .«from_river»)) (p + 1) (g .«from_storage»), c .before .before .before .pre .1, c .line-place .ensures)
 
 add-report-3 : tie.Need-add-report-3
 add-report-3 c = search needs
 
-mul-report-8 : tie.Need-mul-report-8
-mul-report-8 c = search needs
+mul-report-4 : tie.Need-mul-report-4
+mul-report-4 c = search needs
 
 slice-write-report-4 : tie.Need-slice-write-report-4
 slice-write-report-4 c =
-    let s = c .before .before .args .report .now in
-    let i = c .before .before .args .i in
-    let s1 = set s (4 * i) (c .before .before .args .grant .«from_river») in
-    let s2 = set s1 (4 * i + 1) (c .before .before .args .grant .«from_storage») in
-    omega (arith, length-set s (4 * i) (c .before .before .args .grant .«from_river»), length-set s1 (4 * i + 1) (c .before .before .args .grant .«from_storage»), length-set s2 (4 * i + 2) (c .why .result), c .before .before .pre .1)
+    let s = c .before .before .before .args .report .now in
+    let p = c .line-place .result in
+    let g = c .before .before .before .args .grant in
+    let two = set (set s p (g .«from_river»)) (p + 1) (g .«from_storage») in
+    omega (arith, length-set s p (g .«from_river»), length-set (set s p (g .«from_river»)) (p + 1) (g .«from_storage»), length-set two (p + 2) (c .before .why .result), c .before .before .before .pre .1, c .line-place .ensures)
 
 same-length : tie.Need-same-length
 same-length c = search needs
@@ -78,12 +70,12 @@ same-length c = search needs
 returns : tie.Need-returns
 unfolding lineOf
 returns c =
-    let b = c .before .before .before in
+    let b = c .before .before .before .before in
     let l = b .args .report .now in
     let g = b .args .grant in
-    let i = b .args .i in
-    let e = c .before .why .ensures in
-    (sym (ap (λ (t : Bool). cond t 0 1) (sym (ap (λ (x : ℕ). eqb x 0) e) ∙ eq-eqb (c .before .why .result) 0 (c .if1 .taken))), ap (λ (x : ℕ). set (set (set (set l (4 * i) (g .«from_river»)) (4 * i + 1) (g .«from_storage»)) (4 * i + 2) x) (4 * i + 3) (b .args .station)) e)
+    let e = c .before .before .why .ensures in
+    let q = c .before .line-place .ensures in
+    (sym (ap (λ (t : Bool). cond t 0 1) (sym (ap (λ (x : ℕ). eqb x 0) e) ∙ eq-eqb (c .before .before .why .result) 0 (c .if1 .taken))), (λ z. set (set (set (set l (q z) (g .«from_river»)) (q z + 1) (g .«from_storage»)) (q z + 2) (e z)) (q z + 3) (b .args .station)))
 
 same-length-2 : tie.Need-same-length-2
 same-length-2 c = search needs
@@ -91,32 +83,29 @@ same-length-2 c = search needs
 returns-2 : tie.Need-returns-2
 unfolding lineOf
 returns-2 c =
-    let b = c .before .before .before in
+    let b = c .before .before .before .before in
     let l = b .args .report .now in
     let g = b .args .grant in
-    let i = b .args .i in
-    let e = c .before .why .ensures in
-    (sym (ap (λ (t : Bool). cond t 0 1) (sym (ap (λ (x : ℕ). eqb x 0) e) ∙ ne-eqb (c .before .why .result) 0 (c .if1 .left))), ap (λ (x : ℕ). set (set (set (set l (4 * i) (g .«from_river»)) (4 * i + 1) (g .«from_storage»)) (4 * i + 2) x) (4 * i + 3) (b .args .station)) e)
+    let e = c .before .before .why .ensures in
+    let q = c .before .line-place .ensures in
+    (sym (ap (λ (t : Bool). cond t 0 1) (sym (ap (λ (x : ℕ). eqb x 0) e) ∙ ne-eqb (c .before .before .why .result) 0 (c .if1 .left))), (λ z. set (set (set (set l (q z) (g .«from_river»)) (q z + 1) (g .«from_storage»)) (q z + 2) (e z)) (q z + 3) (b .args .station)))
 
 pub put-line-spec : {M : Type 1} → statement M
 put-line-spec =
     tie.close
     (tie.spec
     why-requires
+    line-place-requires
     mul-report
-    mul-report-2
     slice-write-report
-    mul-report-3
     add-report
-    mul-report-4
+    mul-report-2
     slice-write-report-2
-    mul-report-5
     add-report-2
-    mul-report-6
+    mul-report-3
     slice-write-report-3
-    mul-report-7
     add-report-3
-    mul-report-8
+    mul-report-4
     slice-write-report-4
     same-length
     returns

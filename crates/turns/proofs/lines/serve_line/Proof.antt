@@ -5,13 +5,14 @@ use borrow.Author.Needs.{needs}
 use denote.Ref.{now}
 use Rattle.turns.proofs.lines.serve_line.Statement.{statement}
 use Rattle.turns.proofs.lines.serve_line.Tie as tie
-use Rattle.rules.specs.Basin.{Basin}
 use Rattle.records.specs.declared.rights.RightRecord.{RightRecord}
-use Rattle.records.specs.Records.{rowsOf, reservoirCount, rightRecord}
+use Rattle.records.specs.Records.{rowsOf, reservoirCount}
 use Rattle.grants.specs.Stages.{homeRow}
-use Rattle.turns.specs.State.{stateOf, namedBy, Setting}
-use Rattle.turns.specs.Lines.{homeNumber, lineOf}
-use Rattle.turns.proofs.Facts.{place-most}
+use Rattle.turns.specs.State.{namedBy}
+use Rattle.turns.specs.Lines.{reservoirStation, lineOf}
+use Rattle.turns.proofs.Given.{theState}
+use Rattle.turns.proofs.RightFacts.{place-most}
+use Rattle.turns.proofs.AsRead.{turn-in, the-turn}
 use Rattle.turns.proofs.Naming.{can-name, name-same}
 
 right-at-requires : tie.Need-right-at-requires
@@ -27,16 +28,13 @@ name-requires : tie.Need-name-requires
 name-requires c κs =
     let s = c .before .before .before .before .before .before .before .before .before .before .before .before .before .before .args in
     let q = c .before .before .before .before .before .before .before .before .before .before .before .before .before .before .pre .ready in
-    let made = c .before .before .before .serve-right .result in
+    let t = the-turn q in
     let turned = c .before .before .before .serve-right .ensures (q .basin) (q .setting) in
     let e = c .index .ensures .0 ∙ ap (λ (x : RightRecord). x .reservoir) (c .before .before .before .before .before .before .before .before .right-at .ensures) in
-    λ h. subst (λ (v : ℕ). (v < reservoirCount (now (s .reservoirs))) × (homeRow (now (s .reservoirs)) v < rowsOf (now (s .stations)))) (sym e) (can-name (q .basin) (now (s .stations)) (now (s .below)) (now (s .reservoirs)) (s .patterns) (now (s .rights)) (q .setting) (s .i) (q .place) (s .m) (stateOf (q .basin) (now (s .flow)) (now (s .available)) (now (s .short)) (now (s .board))) made (turned .tells) h)
+    λ h. subst (λ (v : ℕ). (v < reservoirCount (now (s .reservoirs))) × (homeRow (now (s .reservoirs)) v < rowsOf (now (s .stations)))) (sym e) (can-name (t .right) (t .month) (theState t) (c .before .before .before .serve-right .result) (turned .tells) h)
 
 put-line-requires : tie.Need-put-line-requires
-put-line-requires c κs =
-    let s = c .before .before .before .before .before .before .before .before .before .before .before .before .before .before .before .before .args in
-    let q = c .before .before .before .before .before .before .before .before .before .before .before .before .before .before .before .before .pre .ready in
-    (place-most (q .basin) (now (s .stations)) (now (s .below)) (now (s .reservoirs)) (s .patterns) (now (s .rights)) (q .setting) (s .i) (q .place), c .before .before .before .before .before .before .before .before .before .before .before .before .before .before .before .before .pre .line)
+put-line-requires c κs = (place-most (the-turn (c .before .before .before .before .before .before .before .before .before .before .before .before .before .before .before .before .pre .ready) .right), c .before .before .before .before .before .before .before .before .before .before .before .before .before .before .before .before .pre .line)
 
 same-length : tie.Need-same-length
 same-length c = search needs
@@ -49,16 +47,16 @@ returns c =
     let s = c .before .before .before .before .before .before .before .before .before .before .before .before .before .before .before .before .before .before .before .args in
     let q = c .before .before .before .before .before .before .before .before .before .before .before .before .before .before .before .before .before .before .before .pre .ready in
     let made = c .before .before .before .before .before .before .before .before .serve-right .result in
-    let v = (rightRecord (now (s .rights)) (s .i)) .reservoir in
     let e = c .before .before .before .before .before .index .ensures .0 ∙ ap (λ (x : RightRecord). x .reservoir) (c .before .before .before .before .before .before .before .before .before .before .before .before .before .right-at .ensures) in
-    λ (b : Basin) (w : Setting b (now (s .stations)) (now (s .below)) (now (s .reservoirs)) (s .patterns) (now (s .rights))).
+    λ b w.
+    let t = turn-in q b w in
     let turned = c .before .before .before .before .before .before .before .before .serve-right .ensures b w in
-    let able = can-name b (now (s .stations)) (now (s .below)) (now (s .reservoirs)) (s .patterns) (now (s .rights)) w (s .i) (q .place) (s .m) (stateOf b (now (s .flow)) (now (s .available)) (now (s .short)) (now (s .board))) made (turned .tells) in
-    let named = c .before .before .before .before .name .ensures ∙ ap (λ (x : ℕ). namedBy (homeNumber (now (s .stations)) (now (s .reservoirs)) x) (made .reason)) e ∙ name-same b (now (s .stations)) (now (s .below)) (now (s .reservoirs)) (s .patterns) (now (s .rights)) w (s .i) (q .place) (made .reason) able in
+    let able = can-name (t .right) (t .month) (theState t) made (turned .tells) in
+    let named = c .before .before .before .before .name .ensures ∙ ap (λ (x : ℕ). namedBy (reservoirStation (now (s .stations)) (now (s .reservoirs)) x) (made .reason)) e ∙ name-same (t .right) (made .reason) able in
     record {
       made = made;
       turned = turned;
-      written = c .before .before .put-line .ensures .1 ∙ ap (lineOf (now (s .report)) (s .i) made) named;
+      written = c .before .before .put-line .ensures .1 ∙ ap (lineOf (now (s .report)) (s .turn .right) made) named;
       short = c .before .before .put-line .ensures .0;
     }
 

@@ -1,8 +1,6 @@
 -- `turns::serve::finish` meets its contract. Assumes nothing.
-use mathlib.Core.Path.{refl}
 use native.Mathlib.Omega.{arith}
 use borrow.Author.Needs.{needs}
-use denote.Ref.{now}
 use Rattle.turns.proofs.serve.finish.Statement.{statement}
 use Rattle.turns.proofs.serve.finish.Tie as tie
 use Rattle.turns.proofs.Ending.{rest-fits, can-give, finished-short, finished-met}
@@ -14,14 +12,10 @@ wide8-requires : tie.Need-wide8-requires
 wide8-requires c κs = search needs
 
 mul-rest : tie.Need-mul-rest
-mul-rest c =
-    let b = c .before .before .before in
-    omega (arith, rest-fits (now (b .args .below)) (b .args .patterns) (now (b .args .rights)) (b .args .i) (b .args .right) (b .args .part) (b .args .stored) (now (b .args .flow)) (now (b .args .available)) (now (b .args .short)) (now (b .args .board)) (b .args .right .points) (b .args .right .pattern) (c .wide8 .result) (b .args .right .row) refl refl (c .wide8 .ensures .0) refl (b .pre) .0)
+mul-rest c = omega (arith, rest-fits (c .before .before .before .pre) (c .wide8 .ensures .0) .0)
 
 sub-rest : tie.Need-sub-rest
-sub-rest c =
-    let b = c .before .before .before in
-    omega (arith, rest-fits (now (b .args .below)) (b .args .patterns) (now (b .args .rights)) (b .args .i) (b .args .right) (b .args .part) (b .args .stored) (now (b .args .flow)) (now (b .args .available)) (now (b .args .short)) (now (b .args .board)) (b .args .right .points) (b .args .right .pattern) (c .wide8 .result) (b .args .right .row) refl refl (c .wide8 .ensures .0) refl (b .pre) .1)
+sub-rest c = omega (arith, rest-fits (c .before .before .before .pre) (c .wide8 .ensures .0) .1)
 
 index-requires : tie.Need-index-requires
 index-requires c κs = search needs
@@ -34,8 +28,8 @@ index-requires-3 c κs = search needs
 
 give-returns-requires : tie.Need-give-returns-requires
 give-returns-requires c κs =
-    let b = c .before .before .before .before .before .before .before .before .before in
-    can-give (now (b .args .below)) (b .args .patterns) (now (b .args .rights)) (b .args .i) (b .args .right) (b .args .part) (b .args .stored) (now (b .args .flow)) (now (b .args .available)) (now (b .args .short)) (now (b .args .board)) (c .before .before .before .before .index2 .result) (c .before .before .before .index3 .result) (c .before .before .before .before .before .before .wide8 .result) (c .before .before .before .before .before .index .result) (c .before .before .before .before .index2 .ensures .0) (c .before .before .before .index3 .ensures .0) (c .before .before .before .before .before .before .wide8 .ensures .0) (c .before .before .before .before .before .index .ensures .0) (b .pre)
+    let r = c .before .before .before in
+    can-give (r .before .before .before .before .before .before .pre) (r .before .index2 .ensures .0) (r .index3 .ensures .0) (r .before .before .before .wide8 .ensures .0)
 
 element-write-short : tie.Need-element-write-short
 element-write-short c = search needs
@@ -45,16 +39,16 @@ same-length c = search needs
 
 returns : tie.Need-returns
 returns c =
-    let b = c .before .before .before .before .before .before .before .before .before .before .before .before .before in
-    finished-short (now (b .args .below)) (b .args .patterns) (now (b .args .rights)) (b .args .i) (b .args .right) (b .args .part) (b .args .stored) (now (b .args .flow)) (now (b .args .available)) (now (b .args .short)) (now (b .args .board)) (c .before .before .before .before .before .before .before .before .index2 .result) (c .before .before .before .before .before .before .before .index3 .result) (c .before .before .before .before .before .before .before .before .before .before .wide8 .result) (c .before .before .before .before .before .before .before .before .before .index .result) (c .before .before .before .before .before .before .before .before .index2 .ensures .0) (c .before .before .before .before .before .before .before .index3 .ensures .0) (c .before .before .before .before .before .before .before .before .before .before .wide8 .ensures .0) (c .before .before .before .before .before .before .before .before .before .index .ensures .0) (b .args .demand) (b .args .why) _ _ _ (c .before .before .before .give-returns .ensures) (c .if1 .taken)
+    let r = c .before .before .before .before .before .before .before .before in
+    finished-short (r .before .before .before .before .before .before .pre) (r .before .index2 .ensures .0) (r .index3 .ensures .0) (r .before .before .before .wide8 .ensures .0) (c .before .before .before .before .give-returns .ensures) (r .before .before .index .ensures .0) (c .if1 .taken)
 
 same-length-2 : tie.Need-same-length-2
 same-length-2 c = search needs
 
 returns-2 : tie.Need-returns-2
 returns-2 c =
-    let b = c .before .before .before .before .before .before .before .before .before .before .before .before .before in
-    finished-met (now (b .args .below)) (b .args .patterns) (now (b .args .rights)) (b .args .i) (b .args .right) (b .args .part) (b .args .stored) (now (b .args .flow)) (now (b .args .available)) (now (b .args .short)) (now (b .args .board)) (c .before .before .before .before .before .before .before .before .index2 .result) (c .before .before .before .before .before .before .before .index3 .result) (c .before .before .before .before .before .before .before .before .before .before .wide8 .result) (c .before .before .before .before .before .before .before .before .before .index .result) (c .before .before .before .before .before .before .before .before .index2 .ensures .0) (c .before .before .before .before .before .before .before .index3 .ensures .0) (c .before .before .before .before .before .before .before .before .before .before .wide8 .ensures .0) (c .before .before .before .before .before .before .before .before .before .index .ensures .0) (b .args .demand) (b .args .why) _ _ _ (c .before .before .before .give-returns .ensures) (c .if1 .left)
+    let r = c .before .before .before .before .before .before .before .before in
+    finished-met (r .before .before .before .before .before .before .pre) (r .before .index2 .ensures .0) (r .index3 .ensures .0) (r .before .before .before .wide8 .ensures .0) (c .before .before .before .before .give-returns .ensures) (c .if1 .left)
 
 pub finish-spec : {M : Type 1} → statement M
 finish-spec =

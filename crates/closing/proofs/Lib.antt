@@ -1,0 +1,2 @@
+pub mod Evaporating
+pub mod Rows

@@ -1,0 +1,58 @@
+-- `closing::end` meets its contract. Assumes nothing.
+use borrow.Author.Needs.{needs}
+use Rattle.closing.proofs.end.Statement.{statement}
+use Rattle.closing.proofs.end.Tie as tie
+use Prim.Native.Nat.{_-_}
+use native.Mathlib.Omega.{arith}
+use denote.Ref.{now}
+use Rattle.closing.proofs.Rows.{ended-of}
+
+slice-read-m : tie.Need-slice-read-m
+slice-read-m c = omega (arith, c .before .before .before .before .pre .size)
+
+put-rows-requires : tie.Need-put-rows-requires
+put-rows-requires c κs = c .before .before .before .before .before .pre .tell
+
+in-year-requires : tie.Need-in-year-requires
+in-year-requires c κs = c .before .before .before .before .before .before .before .before .pre .in-year
+
+rows-end-requires : tie.Need-rows-end-requires
+rows-end-requires c κs = search needs
+
+evaporate-requires : tie.Need-evaporate-requires
+evaporate-requires c κs =
+    let p = c .before .before .before .before .before .before .before .before .before .before .before .before .pre in
+    let told = c .before .before .before .before .before .before .put-rows .ensures in
+    record { few = p .few; in-year = omega (arith, p .in-year, c .before .before .before .in-year .ensures); size = p .size; places = omega (arith, p .places, told .size) }
+
+next-month-requires : tie.Need-next-month-requires
+next-month-requires c κs = c .before .before .before .before .before .before .before .before .before .before .before .before .before .before .before .before .before .pre .in-year
+
+slice-write-board : tie.Need-slice-write-board
+slice-write-board c = omega (arith, c .before .before .before .before .before .before .before .before .before .before .before .before .before .before .before .before .before .before .pre .size, c .before .before .before .before .before .evaporate .ensures .size)
+
+same-length : tie.Need-same-length
+same-length c = search needs
+
+same-length-2 : tie.Need-same-length-2
+same-length-2 c = search needs
+
+returns : tie.Need-returns
+returns c =
+    let s = c .before .before .before .before .before .before .before .before .before .before .before .before .before .before .before .before .before .before .args in
+    ended-of (now (s .reservoirs)) (s .n) (s .rows) (now (s .flow)) (now (s .available)) (now (s .board)) (now (s .report)) _ _ _ _ _ (c .before .before .before .before .before .before .before .before .before .before .before .before .put-rows .ensures) (c .before .before .before .before .before .before .before .before .before .in-year .ensures) (c .before .before .before .before .before .before .rows-end .ensures) (c .before .before .before .before .before .evaporate .ensures) (c .next-month .ensures)
+
+pub end-spec : {M : Type 1} → statement M
+end-spec =
+    tie.close
+    (tie.spec
+    slice-read-m
+    put-rows-requires
+    in-year-requires
+    rows-end-requires
+    evaporate-requires
+    next-month-requires
+    slice-write-board
+    same-length
+    same-length-2
+    returns)

@@ -1,0 +1,41 @@
+-- The end of a month on the arrays: what each step asks for, and what it leaves (01, steps 4 and 5). A basin of n rights and h rows.
+use mathlib.Core.List.{List}
+use mathlib.Core.Path.{_≡_}
+use Prim.Native.Nat.{ℕ, _≤_, _<_}
+use lib.ListN.{length, getD, set}
+use Rattle.places.specs.Board.{monthPlace, boardLength, monthAt}
+use Rattle.places.specs.Report.{linesEnd, flowPlace, availablePlace, rowsEnd, reportEnd}
+use Rattle.rules.specs.Month.{nextMonth}
+use Rattle.records.specs.Records.{reservoirCount}
+use Rattle.closing.specs.Losses.{Lost}
+
+-- ---- flow and available flow of the rows, told in the report
+
+pub record CanTell (n h : ℕ) (rp : List ℕ) : Type 0 where
+  pub few-rights : n ≤ 256
+  pub few : h ≤ 64
+  pub places : rowsEnd n h ≤ length rp
+
+-- from rp to rp′ the first k rows have been told
+pub record RowsTold (n k : ℕ) (f a rp rp′ : List ℕ) : Type 0 where
+  pub flow : (w : ℕ) → w < k → getD rp′ (flowPlace n w) 0 ≡ getD f w 0
+  pub available : (w : ℕ) → w < k → getD rp′ (availablePlace n w) 0 ≡ getD a w 0
+  pub front : (p : ℕ) → p < linesEnd n → getD rp′ p 0 ≡ getD rp p 0
+  pub beyond : (p : ℕ) → rowsEnd n k ≤ p → getD rp′ p 0 ≡ getD rp p 0
+  pub size : length rp′ ≡ length rp
+
+-- ---- the end of a month: the rows are told, the reservoirs lose their evaporation, m goes on
+
+pub record CanEnd (rs : List ℕ) (n h : ℕ) (bd rp : List ℕ) : Type 0 where
+  pub few : reservoirCount rs ≤ 8
+  pub in-year : monthAt bd < 12
+  pub size : length bd ≡ boardLength
+  pub tell : CanTell n h rp
+  pub places : reportEnd n h (reservoirCount rs) ≤ length rp
+
+pub record Ended (rs : List ℕ) (n h : ℕ) (f a bd rp bd′ rp′ : List ℕ) : Type 0 where
+  pub told : List ℕ
+  pub rows-told : RowsTold n h f a rp told
+  pub lowered : List ℕ
+  pub lost : Lost rs (monthAt bd) (reservoirCount rs) bd told (rowsEnd n h) lowered rp′
+  pub gone-on : bd′ ≡ set lowered monthPlace (nextMonth (monthAt bd))

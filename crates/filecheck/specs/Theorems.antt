@@ -1,0 +1,12 @@
+-- What is proved of the check beyond the promises of its calls. The proofs stand in proofs/ under the same names, in small letters.
+use mathlib.Core.Path.{_≡_}
+use mathlib.Core.List.{List}
+use Prim.Native.Nat.{ℕ}
+use Rattle.rules.specs.Accepted.{Accepted as Acceptable}
+use Rattle.rules.specs.declared.Verdict.the-variants.{Accepted}
+use Rattle.records.specs.Records.{basinOf}
+use Rattle.filecheck.specs.Check.{checkOf}
+
+-- A file that the check accepts, whatever its bytes, describes a basin that has all that the rules of a month need.
+abbrev pub AcceptedFacts : Type 0
+AcceptedFacts = (f : List ℕ) → checkOf f ≡ Accepted → Acceptable (basinOf f)

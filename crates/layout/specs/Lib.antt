@@ -1,2 +1,0 @@
-pub mod Bytes
-pub mod File

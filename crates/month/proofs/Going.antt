@@ -1,0 +1,114 @@
+-- Month after month of an accepted file: what one leaves is what the next asks for. Assumes nothing.
+use mathlib.Core.Path.{_≡_, sym, ap, _∙_, subst}
+use mathlib.Core.Bool.{Bool, true, false, cond}
+use mathlib.Core.List.{List, [], _∷_}
+use mathlib.Core.Option.{Option, none, some}
+use Prim.Native.Nat.{ℕ, _-_, _*_, _≤_, _<_}
+use native.Mathlib.Nat.{mul-le-mul}
+use native.Mathlib.Omega.{arith}
+use lib.Dec.{leb}
+use lib.ListN.{length, getD}
+use Rattle.general.specs.Tables.{All}
+use Rattle.general.proofs.Lists.{all-at-place}
+use Rattle.general.proofs.Tables.{tab-at}
+use Rattle.rules.specs.Accepted.{Accepted, GoodReservoir}
+use Rattle.rules.specs.Basin.{Basin, Reservoir, Survey, noReservoir, rows, reservoirAt}
+use Rattle.rules.specs.Month.{areaFrom, areaAt, evaporation, evaporations, month}
+use Rattle.rules.specs.Answers.{Answer}
+use Rattle.rules.specs.Tally.{overLimit, overAnswer}
+use Rattle.boards.specs.Board.{possible}
+use Rattle.records.specs.Records.{bodies}
+use Rattle.answers.specs.Answers.{settled}
+use Rattle.places.specs.Report.{evaporationPlace, nameIn}
+use Rattle.month.specs.Month.{runOf, Outcome, monthSettled, NamesAllowed}
+use Rattle.month.specs.Run.{CanRun, Ran, CanRunSheet, SheetRan}
+use Rattle.answers.proofs.Answers.{settled-some}
+use Rattle.month.proofs.After.{after-possible}
+use Rattle.boards.proofs.Report.{evaporation-place}
+use Rattle.month.proofs.Settling.{clear-over, within-limit}
+
+-- ---- the contract, case by case
+
+module _ (st rs ps ri runoff bd rp : List ℕ) (c : CanRunSheet st rs ps ri runoff bd rp) where
+  abbrev b : Basin
+  b = bodies st rs ps ri
+
+  turned-down : (a : Answer) → overAnswer (overLimit runoff) ≡ some a → monthSettled (overAnswer (overLimit runoff)) b runoff bd rp (nameIn rp) ≡ record { answer = a; board = bd; report = rp }
+  unfolding monthSettled
+  turned-down a s = rw s
+
+  pub stays : (a : Answer) → a ≡ settled (overAnswer (overLimit runoff)) → (a .number ≡ 0 → ⊥) → SheetRan b runoff bd rp (record { answer = a; board = bd; report = rp })
+  stays a e n =
+      let s : overAnswer (overLimit runoff) ≡ some a = settled-some (overAnswer (overLimit runoff)) a e n in
+      record { equation = sym (turned-down a s); names = subst (λ (o : Option Answer). NamesAllowed o b (runOf b runoff bd) (nameIn rp)) (sym s) tt }
+
+  module _ (a : Answer) (e : a ≡ settled (overAnswer (overLimit runoff))) (n : a .number ≡ 0) where
+    none-over : overLimit runoff ≡ none
+    none-over = clear-over (overLimit runoff) (ap (λ (x : Answer). x .number) (sym e) ∙ n)
+
+    pub may-run : CanRun st rs ps ri runoff bd rp
+    may-run = record { accepted = c .accepted; sheet = c .sheet; small = within-limit runoff none-over; size = c .size; can = c .can; room = c .room }
+
+    clear : overAnswer (overLimit runoff) ≡ none
+    unfolding overAnswer
+    clear = rw none-over
+
+    module _ (bd′ rp′ : List ℕ) (k : ℕ) (r : Ran b runoff bd rp bd′ rp′ k) where
+      run-is : monthSettled (overAnswer (overLimit runoff)) b runoff bd rp (nameIn rp′) ≡ record { answer = record { number = 0; place = k }; board = bd′; report = rp′ }
+      unfolding monthSettled
+      run-is = rw clear (λ z. record { answer = record { number = 0; place = sym (r .shorts) z }; board = sym (r .board) z; report = sym (r .report) z })
+
+      pub goes : SheetRan b runoff bd rp (record { answer = record { number = 0; place = k }; board = bd′; report = rp′ })
+      goes = record { equation = sym run-is; names = subst (λ (o : Option Answer). NamesAllowed o b (runOf b runoff bd) (nameIn rp′)) (sym clear) (r .names) }
+
+-- ---- what stands on the board after it
+
+board-kept : (b : Basin) → Accepted b → (runoff bd rp : List ℕ) → possible b bd ≡ true → (v : Option Answer) (names : ℕ → ℕ) → possible b ((monthSettled v b runoff bd rp names) .board) ≡ true
+unfolding monthSettled
+board-kept b acc runoff bd rp can none names = after-possible b acc bd can runoff
+board-kept b acc runoff bd rp can (some a) names = can
+
+-- refused or not, the board is possible
+pub still-possible : (b : Basin) → Accepted b → (runoff bd rp : List ℕ) → possible b bd ≡ true → (o : Outcome) → SheetRan b runoff bd rp o → possible b (o .board) ≡ true
+still-possible b acc runoff bd rp can o w = ap (λ (x : Outcome). possible b (x .board)) (w .equation) ∙ board-kept b acc runoff bd rp can (overAnswer (overLimit runoff)) (nameIn (o .report))
+
+-- ---- what evaporates is at most the largest area under the largest depth
+
+area-most : (ps : List Survey) (found x : ℕ) → found ≤ 1_000_000 → All (λ (p : Survey). p .area ≤ 1_000_000) ps → areaFrom found ps x ≤ 1_000_000
+unfolding areaFrom
+area-most [] found x h l = h
+area-most (p ∷ ps) found x h l = area-most ps (cond (leb (p .content) x) (p .area) found) x (go (leb (p .content) x)) (l .1)
+  where
+    go : (t : Bool) → cond t (p .area) found ≤ 1_000_000
+    go true = l .0
+    go false = h
+
+loss-most : (b : Basin) (v : Reservoir) (m x : ℕ) → GoodReservoir b v → evaporation m v x ≤ 1_000_000_000
+unfolding evaporation areaAt
+loss-most b v m x g =
+    let p : areaFrom 0 (v .surveys) x * getD (v .depths) m 0 ≤ 1_000_000 * 1000 = mul-le-mul (area-most (v .surveys) 0 x (omega arith) (g .areas-most)) (g .depths-most m) in
+    omega (arith, p)
+
+losses-most : (b : Basin) → Accepted b → (m : ℕ) (ss : List ℕ) (v : ℕ) → v < length (b .reservoirs) → getD (evaporations b m ss) v 0 ≤ 1_000_000_000
+unfolding evaporations
+losses-most b acc m ss v h = omega (
+  arith,
+  tab-at (λ u. evaporation m (reservoirAt b u) (getD ss u 0)) (length (b .reservoirs)) v 0 h,
+  loss-most b (reservoirAt b v) m (getD ss v 0) (all-at-place (GoodReservoir b) (b .reservoirs) noReservoir (acc .reservoirs-good) v h),
+)
+
+run-losses : (b : Basin) → Accepted b → (runoff bd : List ℕ) (v : ℕ) → v < length (b .reservoirs) → getD ((runOf b runoff bd) .evaporation) v 0 ≤ 1_000_000_000
+unfolding runOf month
+run-losses b acc runoff bd v h = losses-most b acc _ _ v h
+
+-- of an accepted month the report tells them
+told-losses : (b : Basin) → Accepted b → (runoff bd rp : List ℕ) (o : Option ℕ) (names : ℕ → ℕ) → ((monthSettled (overAnswer o) b runoff bd rp names) .answer) .number ≡ 0
+    → (v : ℕ) → v < length (b .reservoirs) → getD ((monthSettled (overAnswer o) b runoff bd rp names) .report) (evaporationPlace (length (b .rights)) (rows b) v) 0 ≤ 2_000_000_000
+unfolding monthSettled overAnswer
+told-losses b acc runoff bd rp none names e v h = omega (arith, evaporation-place b (runOf b runoff bd) names rp v h, run-losses b acc runoff bd v h)
+told-losses b acc runoff bd rp (some i) names e v h = absurd (omega (arith, e))
+
+pub losses-told : (b : Basin) → Accepted b → (runoff bd rp : List ℕ) (o : Outcome) → SheetRan b runoff bd rp o → (o .answer) .number ≡ 0 → (v : ℕ) → v < length (b .reservoirs) → getD (o .report) (evaporationPlace (length (b .rights)) (rows b) v) 0 ≤ 2_000_000_000
+losses-told b acc runoff bd rp o w e v h =
+    let t = told-losses b acc runoff bd rp (overLimit runoff) (nameIn (o .report)) (ap (λ (x : Outcome). (x .answer) .number) (sym (w .equation)) ∙ e) v h in
+    omega (arith, t, ap (λ (x : Outcome). getD (x .report) (evaporationPlace (length (b .rights)) (rows b) v) 0) (w .equation))

@@ -1,0 +1,8 @@
+pub mod Settling
+pub mod Opened
+pub mod Closing
+pub mod Reporting
+pub mod After
+pub mod Running
+pub mod Going
+pub mod Names

@@ -1,0 +1,218 @@
+-- A month from its first step to its last, at what the code has in hand. Assumes nothing.
+use mathlib.Core.Bool.{Bool, true, false, cond}
+use mathlib.Core.List.{List, []}
+use mathlib.Core.Path.{_≡_, refl, sym, ap, _∙_, subst}
+use Prim.Native.Nat.{ℕ, suc, _-_, _≤_, _<_}
+use native.Mathlib.Decide.{decLt}
+use native.Mathlib.Omega.{arith}
+use lib.Dec.{ltb, eqb}
+use lib.ListN.{length, getD, set, replicate, length-replicate, List·getD-append, List·getD-eq-default}
+use Rattle.general.specs.Tables.{tab}
+use Rattle.general.proofs.Lists.{getD-zeros}
+use Rattle.general.proofs.Tables.{tab-length}
+use Rattle.general.proofs.Tests.{only-le, by-eqb}
+use Rattle.rules.specs.Accepted.{Accepted}
+use Rattle.rules.specs.Basin.{Basin, rows}
+use Rattle.rules.specs.Month.{opening, nextMonth}
+use Rattle.rules.specs.Theorems.{mostDue}
+use Rattle.records.specs.Records.{rowsOf, stationsOf, reservoirCount, rightCount, patternCount, patternOf, patternsOf, sixteenPatterns, bodies}
+use Rattle.records.specs.Table.{tableOf}
+use Rattle.turns.specs.declared.lines.Totals.{Totals}
+use Rattle.turns.specs.Lines.{CanServe, Served}
+use Rattle.closing.specs.Losses.{Lost}
+use Rattle.opening.specs.Opening.{mostInflow, inflow, CanGather, Gathered, CanOpen}
+use Rattle.places.specs.Board.{BoardOk, monthPlace, duesOf, duePlace, boardLength, monthAt, storageAt, marksAt, takenAt, dueAt}
+use Rattle.turns.specs.State.{stateOf, Setting, Within}
+use Rattle.turns.proofs.Facts.{downhill, path-in}
+use Rattle.opening.proofs.Openings.{gathered-river, opening-is}
+use Rattle.places.specs.Report.{rowsEnd}
+use Rattle.places.proofs.BoardPlaces.{by-places}
+use Rattle.boards.specs.Board.{carriedOf, possible}
+use Rattle.closing.specs.Closing.{CanEnd, Ended}
+use Rattle.month.specs.Run.{CanRun, Ran}
+use Rattle.records.proofs.Decoded.{bodies-rows, bodies-reservoirs, bodies-rights}
+use Rattle.boards.proofs.Bodies.{marks-small}
+use Rattle.month.proofs.Opened.{opened, opened-length, opened-month, opened-storage, opened-word, opened-taken, opened-due, state-opened}
+use Rattle.boards.proofs.Bounds.{month-most, storage-most, marks-most, taken-most, due-most, no-due, capacity-most, limit-most}
+use Rattle.month.proofs.Closing.{board-left}
+use Rattle.month.proofs.Reporting.{report-left, names-left, shorts-left}
+
+-- the patterns of the file are the first of the sixteen
+sixteen : (ps : List ℕ) (k : ℕ) → k < length (patternsOf ps) → getD (patternsOf ps) k [] ≡ getD (sixteenPatterns ps) k []
+unfolding sixteenPatterns
+sixteen ps k h = sym (List·getD-append (patternsOf ps) _ [] k h)
+
+-- ---- what each place of a possible board holds at most
+
+module _ (b : Basin) (acc : Accepted b) (bd : List ℕ) (can : possible b bd ≡ true) (size : length bd ≡ boardLength) where
+  due-small : (w k : ℕ) → w < 64 → k < 11 → dueAt bd w (suc k) ≤ 2_816_000_000_000
+  due-small w k h l = omega (arith, due-most b bd can w k h l, only-le (ltb w (rows b)) (mostDue (suc k)))
+
+  taken-small : (i : ℕ) → i < 256 → takenAt bd i ≤ 2_000_000_000
+  taken-small i h = omega (arith, taken-most b bd can i h, limit-most b acc i)
+
+  storage-small : (v : ℕ) → v < 8 → storageAt bd v ≤ 2_000_000_000
+  storage-small v h = omega (arith, storage-most b bd can v h, capacity-most b acc v)
+
+  word-small : marksAt bd ≤ 256
+  word-small = omega (arith, marks-most b bd can, marks-small (length (b .reservoirs)) (acc .few-reservoirs))
+
+  -- nothing is due where the basin has no row
+  none-due : (p : ℕ) → duesOf (rows b) ≤ p → getD bd p 0 ≡ 0
+  none-due p h = pick (decLt p boardLength)
+    where
+      told : (p : ℕ) → p < boardLength → duesOf (rows b) ≤ p → getD bd p 0 ≡ 0
+      told = by-places (λ p. duesOf (rows b) ≤ p → getD bd p 0 ≡ 0)
+          (λ o. absurd (omega (arith, o)))
+          (λ v l o. absurd (omega (arith, l, o)))
+          (λ o. absurd (omega (arith, o)))
+          (λ i l o. absurd (omega (arith, l, o)))
+          (λ w k l m o. no-due b bd can w k l m (omega (arith, m, o)))
+
+      pick : Dec (p < boardLength) → getD bd p 0 ≡ 0
+      pick (yes l) = told p l h
+      pick (no l) = List·getD-eq-default bd 0 {n = p} (omega (arith, size, l))
+
+  -- the board as the month opens
+
+  opened-small : (p : ℕ) → getD (opened bd) p 0 ≤ 1_000_000_000_000_000_000
+  opened-small p = pick (decLt p boardLength)
+    where
+      less : (o : Bool) (x : ℕ) → cond o 0 x ≤ x
+      less true x = omega arith
+      less false x = omega arith
+
+      next : (w k : ℕ) → w < 64 → k < 11 → cond (eqb (suc k) 11) 0 (dueAt bd w (suc (suc k))) ≤ 2_816_000_000_000
+      next w k l m = by-eqb (suc k) 11 (λ t. cond t 0 (dueAt bd w (suc (suc k))) ≤ 2_816_000_000_000) (λ e. omega arith) (λ e. due-small w (suc k) l (omega (arith, m, e)))
+
+      told : (p : ℕ) → p < boardLength → getD (opened bd) p 0 ≤ 1_000_000_000_000_000_000
+      told = by-places (λ p. getD (opened bd) p 0 ≤ 1_000_000_000_000_000_000)
+          (omega (arith, opened-month bd, month-most b bd can))
+          (λ v l. omega (arith, opened-storage bd v l, storage-small v l))
+          (omega (arith, opened-word bd, less (eqb (monthAt bd) 0) (marksAt bd), word-small))
+          (λ i l. omega (arith, opened-taken bd i l, less (eqb (monthAt bd) 0) (takenAt bd i), taken-small i l))
+          (λ w k l m. omega (arith, opened-due bd w k l m, next w k l m))
+
+      pick : Dec (p < boardLength) → getD (opened bd) p 0 ≤ 1_000_000_000_000_000_000
+      pick (yes h) = told p h
+      pick (no h) = omega (arith, List·getD-eq-default (opened bd) 0 {n = p} (omega (arith, h, opened-length bd)))
+
+  opened-within : Within b (opened bd)
+  opened-within = record {
+    storages = λ v h. let l : v < 8 = omega (arith, h, acc .few-reservoirs) in omega (arith, opened-storage bd v l, storage-most b bd can v l);
+    taken = λ i h. let l : i < 256 = omega (arith, h, acc .few-rights) in omega (arith, opened-taken bd i l, less (eqb (monthAt bd) 0) i, taken-most b bd can i l);
+  }
+    where
+      less : (o : Bool) (i : ℕ) → cond o 0 (takenAt bd i) ≤ takenAt bd i
+      less true i = omega arith
+      less false i = omega arith
+
+-- ---- the steps
+
+module _ (st rs ps ri runoff bd rp : List ℕ) (c : CanRun st rs ps ri runoff bd rp) where
+  pub run-rows : rowsOf st ≤ 64
+  run-rows = omega (arith, bodies-rows st rs ps ri, c .accepted .few-rows)
+
+  pub run-patterns : patternCount ps ≤ 16
+  unfolding bodies patternsOf
+  run-patterns = omega (arith, tab-length (patternOf ps) (patternCount ps), c .accepted .few-patterns)
+
+  pub run-rights : rightCount ri ≤ 256
+  run-rights = omega (arith, bodies-rights st rs ps ri, c .accepted .few-rights)
+
+  pub can-open : CanOpen (length runoff) bd
+  can-open = record {
+    size = c .size;
+    few = omega (arith, c .sheet, c .accepted .few-rows);
+    empty = λ p h. none-due (bodies st rs ps ri) (c .accepted) bd (c .can) (c .size) p (omega (arith, h, c .sheet));
+  }
+
+module _ (st rs ps ri runoff bd rp : List ℕ) (c : CanRun st rs ps ri runoff bd rp) (t : List ℕ) (et : t ≡ tableOf (stationsOf st)) (pa : List (List ℕ)) (epa : pa ≡ sixteenPatterns ps) where
+  abbrev b : Basin
+  b = bodies st rs ps ri
+
+  pub setting : Setting b st t rs pa ri
+  unfolding bodies
+  setting = record { accepted = c .accepted; stations = refl; table = et; reservoirs = refl; patterns = λ k h. sixteen ps k h ∙ ap (λ (x : List (List ℕ)). getD x k []) (sym epa); rights = refl }
+
+  few-rows : rowsOf st ≤ 64
+  few-rows = omega (arith, bodies-rows st rs ps ri, c .accepted .few-rows)
+
+  -- a row that the basin lacks sends nothing
+  inflow-small : (j : ℕ) → inflow runoff bd j ≤ mostInflow
+  inflow-small j = pick (decLt j 64)
+    where
+      pick : Dec (j < 64) → inflow runoff bd j ≤ mostInflow
+      pick (yes h) = omega (arith, c .small j, due-small b (c .accepted) bd (c .can) (c .size) j 0 h (omega arith))
+      pick (no h) = omega (arith, c .small j, none-due b (c .accepted) bd (c .can) (c .size) (duePlace j 0) (omega (arith, h, c .accepted .few-rows)))
+
+  pub can-gather : (f a : List ℕ) → 64 ≤ length f → 64 ≤ length a → ((i : ℕ) → getD f i 0 ≡ 0) → ((i : ℕ) → getD a i 0 ≡ 0) → CanGather t runoff bd f a
+  can-gather f a hf ha ef ea = record {
+    downhill = downhill setting;
+    sheet = omega (arith, c .sheet, c .accepted .few-rows);
+    size = c .size;
+    within = λ j i h e. omega (arith, c .sheet, path-in setting j (omega (arith, c .sheet)) i e);
+    small = λ j. inflow-small j;
+    places = hf;
+    places₂ = ha;
+    empty = ef;
+    empty₂ = ea;
+  }
+
+  dry : CanGather t runoff bd (replicate 64 0) (replicate 64 0)
+  dry = can-gather (replicate 64 0) (replicate 64 0) (omega (arith, length-replicate {A = ℕ} 64 0)) (omega (arith, length-replicate {A = ℕ} 64 0)) (getD-zeros 64) (getD-zeros 64)
+
+  module _ (f a : List ℕ) (g : Gathered t runoff bd (length runoff) f a) (sh : List Bool) (bd₁ : List ℕ) (e₁ : bd₁ ≡ opened bd) (none : (w : ℕ) → getD sh w false ≡ false) (marks : 64 ≤ length sh) (m : ℕ) (em : m ≡ monthAt bd₁) where
+    month-is : m ≡ monthAt bd
+    month-is = em ∙ ap monthAt e₁ ∙ opened-month bd
+
+    pub can-serve : CanServe st t rs pa ri m f a sh bd₁ rp
+    can-serve = record {
+      basin = b;
+      setting = setting;
+      in-year = omega (arith, month-is, month-most b bd (c .can));
+      river = gathered-river t runoff bd (replicate 64 0) (replicate 64 0) dry f a g;
+      board = subst (λ (x : List ℕ). BoardOk x 1000000000000000000) (sym e₁) (record { size = opened-length bd; room = record { room = opened-small b (c .accepted) bd (c .can) (c .size) } });
+      marks = marks;
+      within = subst (Within b) (sym e₁) (opened-within b (c .accepted) bd (c .can) (c .size));
+      lines = omega (arith, c .room, bodies-rights st rs ps ri);
+    }
+
+    start : stateOf b f a sh (opened bd) ≡ opening b (carriedOf b bd) runoff (tab (rows b) (λ u. dueAt bd u 1))
+    start = state-opened bd b (c .accepted) f a sh runoff (tab (rows b) (λ u. dueAt bd u 1)) (opening-is b t (setting .table) (c .accepted .few-rows) runoff bd (c .sheet) f a g) none
+
+    module _ (f₂ a₂ : List ℕ) (sh₂ : List Bool) (bd₂ rp₁ : List ℕ) (k : Totals) (q₁ : Served b m f a sh bd₁ rp f₂ a₂ sh₂ bd₂ rp₁ k) where
+      q : Served b m f a sh (opened bd) rp f₂ a₂ sh₂ bd₂ rp₁ k
+      q = subst (λ (x : List ℕ). Served b m f a sh x rp f₂ a₂ sh₂ bd₂ rp₁ k) e₁ q₁
+
+      month₂ : monthAt bd₂ ≡ m
+      month₂ = q₁ .month ∙ sym em
+
+      pub can-end : CanEnd rs (rightCount ri) (rowsOf st) bd₂ rp₁
+      can-end = record {
+        few = omega (arith, bodies-reservoirs st rs ps ri, c .accepted .few-reservoirs);
+        in-year = omega (arith, month₂, month-is, month-most b bd (c .can));
+        size = q .size ∙ opened-length bd;
+        tell = record {
+          few-rights = omega (arith, bodies-rights st rs ps ri, c .accepted .few-rights);
+          few = few-rows;
+          places = omega (arith, c .room, bodies-rights st rs ps ri, bodies-rows st rs ps ri, q .lines .size);
+        };
+        places = omega (arith, c .room, bodies-rights st rs ps ri, bodies-rows st rs ps ri, bodies-reservoirs st rs ps ri, q .lines .size);
+      }
+
+      -- the counts by the basin
+      ended : (bd₄ rp₃ : List ℕ) → Ended rs (rightCount ri) (rowsOf st) f₂ a₂ bd₂ rp₁ bd₄ rp₃ → Ended rs (length (b .rights)) (rows b) f₂ a₂ bd₂ rp₁ bd₄ rp₃
+      ended bd₄ rp₃ z = rw (bodies-rights st rs ps ri, bodies-rows st rs ps ri) z
+
+      pub ran : (bd₄ rp₃ : List ℕ) → Ended rs (rightCount ri) (rowsOf st) f₂ a₂ bd₂ rp₁ bd₄ rp₃ → Ran b runoff bd rp bd₄ rp₃ (k .shorts)
+      ran bd₄ rp₃ x =
+          let z = ended bd₄ rp₃ x in
+          let at : ℕ = rowsEnd (length (b .rights)) (rows b) in
+          let l : Lost rs m (reservoirCount rs) bd₂ (z .told) at (z .lowered) rp₃ = subst (λ (y : ℕ). Lost rs y (reservoirCount rs) bd₂ (z .told) at (z .lowered) rp₃) month₂ (z .lost) in
+          record {
+            board = board-left b st t rs pa ri setting runoff bd (c .can) f a sh start m month-is rp f₂ a₂ sh₂ bd₂ rp₁ k q (z .told) at (z .lowered) rp₃ l bd₄ (z .gone-on ∙ ap (λ (y : ℕ). set (z .lowered) monthPlace (nextMonth y)) month₂);
+            report = report-left b st t rs pa ri setting runoff bd (c .can) f a sh start m month-is rp f₂ a₂ sh₂ bd₂ rp₁ k q (c .room) (z .told) (z .rows-told) (z .lowered) rp₃ l;
+            names = names-left b st t rs pa ri setting runoff bd (c .can) f a sh start m month-is rp f₂ a₂ sh₂ bd₂ rp₁ k q (c .room) (z .told) (z .rows-told) (z .lowered) rp₃ l;
+            shorts = shorts-left b st t rs pa ri setting runoff bd (c .can) f a sh start m month-is rp f₂ a₂ sh₂ bd₂ rp₁ k q (c .room) (z .told) (z .rows-told) (z .lowered) rp₃ l;
+          }

@@ -1,0 +1,81 @@
+-- The call month, for every file and all lists, refusals included (01, "The board and one month").
+use mathlib.Core.Path.{_≡_}
+use mathlib.Core.Bool.{Bool, true}
+use mathlib.Core.List.{List}
+use mathlib.Core.Option.{Option, none, some}
+use Prim.Native.Nat.{ℕ, suc, _+_, _<_}
+use lib.Dec.{ltb}
+use lib.ListN.{length}
+use Rattle.general.specs.Sums.{only}
+use Rattle.general.specs.Tables.{tab}
+use Rattle.general.specs.Tests.{_and_, has}
+use Rattle.places.specs.Board.{dueAt}
+use Rattle.places.specs.Report.{nameIn}
+use Rattle.rules.specs.Answers.{Answer}
+use Rattle.rules.specs.Basin.{Basin, rows}
+use Rattle.rules.specs.Month.{grantAt, returnsAt, MonthRun, month, shortCount}
+use Rattle.rules.specs.Tally.{Call, listsFit, overLimit, overAnswer}
+use Rattle.records.specs.Records.{basinOf}
+use Rattle.boards.specs.Board.{carriedOf, boardOf, boardFits}
+use Rattle.boards.specs.Report.{reportOf}
+use Rattle.answers.specs.declared.Answer.{Answer as Given}
+use Rattle.answers.specs.Answers.{orElse, lentRefusal, answerOf}
+
+-- ---- what is turned down: what is lent, then runoff over its limit
+
+-- the call as the rules see it: of the report only its length
+abbrev pub callWith : List ℕ → List ℕ → Call
+callWith runoff report = record { runoff = runoff; report = length report }
+
+unfoldable pub allFit : Basin → List ℕ → List ℕ → List ℕ → Bool
+allFit b runoff board report = listsFit b (callWith runoff report) and boardFits board
+
+unfoldable pub monthRefusal : List ℕ → List ℕ → List ℕ → List ℕ → Option Answer
+monthRefusal f runoff board report = orElse (lentRefusal f (allFit (basinOf f) runoff board report) board) (overAnswer (overLimit runoff))
+
+-- ---- the month that is run
+
+-- what is due at k = 1 arrives
+unfoldable pub runOf : Basin → List ℕ → List ℕ → MonthRun
+runOf b runoff board = month b (carriedOf b board) runoff (tab (rows b) (λ w. dueAt board w 1))
+
+-- What was on its way at k + 1 is now at k, and what arrived is used up; to this the month's grants add what they return.
+unfoldable pub dueAfter : Basin → MonthRun → List ℕ → ℕ → ℕ → ℕ
+dueAfter b h board w k = only (ltb k 11) (dueAt board w (suc k)) + returnsAt b (h .turns) w k
+
+unfoldable pub boardAfter : Basin → List ℕ → List ℕ → List ℕ
+boardAfter b runoff board = let h : MonthRun = runOf b runoff board in boardOf b (h .carried) (dueAfter b h board)
+
+-- ---- answer, board and report
+
+pub record Outcome : Type 0 where
+  pub answer : Answer
+  pub board : List ℕ
+  pub report : List ℕ
+
+unfoldable pub monthSettled : Option Answer → Basin → List ℕ → List ℕ → List ℕ → (ℕ → ℕ) → Outcome
+monthSettled none b runoff board report names = record {
+  answer = record { number = 0; place = shortCount ((runOf b runoff board) .turns) };
+  board = boardAfter b runoff board;
+  report = reportOf b (runOf b runoff board) names report;
+}
+monthSettled (some a) b runoff board report names = record { answer = a; board = board; report = report }
+
+unfoldable pub monthOf : List ℕ → List ℕ → List ℕ → List ℕ → (ℕ → ℕ) → Outcome
+monthOf f runoff board report names = monthSettled (monthRefusal f runoff board report) (basinOf f) runoff board report names
+
+-- ---- the month's contract
+
+-- of an accepted month each station named is one that may be named
+abbrev pub NamesAllowed : Option Answer → Basin → MonthRun → (ℕ → ℕ) → Type 0
+NamesAllowed none b h names = (i : ℕ) → i < length (b .rights) → has (names i) ((grantAt (h .turns) i) .stations) ≡ true
+NamesAllowed (some a) b h names = Unit {0}
+
+-- What month promises: one equation for answer, board and report, and the one relation that 01 leaves open. The names are those of the report that it leaves.
+pub record MonthMeets (f runoff board report : List ℕ) (outcome : Outcome) : Type 0 where
+  pub equation : outcome ≡ monthOf f runoff board report (nameIn (outcome .report))
+  pub names : NamesAllowed (monthRefusal f runoff board report) (basinOf f) (runOf (basinOf f) runoff board) (nameIn (outcome .report))
+
+-- the outcome as the call gives it
+abbrev pub outcomeOf : Given → List ℕ → List ℕ → Outcome
+outcomeOf a board report = record { answer = answerOf a; board = board; report = report }

@@ -1,4 +1,0 @@
-pub mod Sending
-pub mod Openings
-pub mod OpenedBoard
-pub mod Evaporating

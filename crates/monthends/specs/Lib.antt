@@ -1,2 +1,0 @@
-pub mod Opening
-pub mod Losses

@@ -1,7 +1,0 @@
-pub mod Report
-pub mod Opened
-pub mod Closing
-pub mod Reporting
-pub mod After
-pub mod Running
-pub mod Going

@@ -1,2 +1,0 @@
-// The month on lent numbers.
-pub mod month;

@@ -1,0 +1,3 @@
+pub mod OpenedBoard
+pub mod Openings
+pub mod Sending

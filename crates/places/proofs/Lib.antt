@@ -1,0 +1,2 @@
+pub mod BoardPlaces
+pub mod ReportPlaces

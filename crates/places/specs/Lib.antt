@@ -1,0 +1,2 @@
+pub mod Board
+pub mod Report

@@ -1,0 +1,68 @@
+-- The places of a report (01, "The board and one month"): the lines of the rights, then the rows, then the evaporations. Everything else names a number
+-- of a report by these words. A basin of n rights, h rows and v reservoirs.
+use mathlib.Core.Bool.{cond}
+use mathlib.Core.List.{List}
+use Prim.Native.Nat.{ℕ, _+_, _-_, _*_, _/_, _%_}
+use lib.Dec.{ltb}
+use lib.ListN.{getD}
+
+-- ---- places
+
+-- the four numbers of right i: what it is granted from the river and from storage, the reason's number, the station named
+abbrev pub fromRiverPlace : ℕ → ℕ
+fromRiverPlace i = 4 * i
+
+abbrev pub fromStoragePlace : ℕ → ℕ
+fromStoragePlace i = fromRiverPlace i + 1
+
+abbrev pub reasonPlace : ℕ → ℕ
+reasonPlace i = fromRiverPlace i + 2
+
+abbrev pub stationPlace : ℕ → ℕ
+stationPlace i = fromRiverPlace i + 3
+
+abbrev pub linesEnd : ℕ → ℕ
+linesEnd n = 4 * n
+
+-- the two numbers of row w: flow and available flow
+abbrev pub flowPlace : ℕ → ℕ → ℕ
+flowPlace n w = linesEnd n + 2 * w
+
+abbrev pub availablePlace : ℕ → ℕ → ℕ
+availablePlace n w = flowPlace n w + 1
+
+abbrev pub rowsEnd : ℕ → ℕ → ℕ
+rowsEnd n h = linesEnd n + 2 * h
+
+-- the evaporation of reservoir v
+abbrev pub evaporationPlace : ℕ → ℕ → ℕ → ℕ
+evaporationPlace n h v = rowsEnd n h + v
+
+-- how many numbers a month tells
+abbrev pub reportEnd : ℕ → ℕ → ℕ → ℕ
+reportEnd n h v = rowsEnd n h + v
+
+-- the most that any basin has to tell
+abbrev pub mostReport : ℕ
+mostReport = 1160
+
+-- ---- read off a report
+
+-- the station named for right i
+abbrev pub nameIn : List ℕ → ℕ → ℕ
+nameIn report i = getD report (stationPlace i) 0
+
+-- ---- a report made of its parts
+
+-- number q of right i, number q of row w, what reservoir v lost
+pub record Parts : Type 0 where
+  pub line : ℕ → ℕ → ℕ
+  pub row : ℕ → ℕ → ℕ
+  pub evaporation : ℕ → ℕ
+
+-- the number at place p
+unfoldable pub partAt : ℕ → ℕ → Parts → ℕ → ℕ
+partAt n h x p =
+    cond (ltb p (linesEnd n)) (x .line (p / 4) (p % 4))
+    (cond (ltb p (rowsEnd n h)) (x .row ((p - linesEnd n) / 2) ((p - linesEnd n) % 2))
+    (x .evaporation (p - rowsEnd n h)))

@@ -1,0 +1,34 @@
+-- What a call answers: a number and a place (01, "Numbers for what is turned down"). This is the only table of the numbers.
+use Prim.Native.Nat.{ℕ}
+use Rattle.rules.specs.declared.Verdict.{Verdict}
+use Rattle.rules.specs.declared.Verdict.the-variants.{Accepted, Layout, Station, Reservoir, Pattern, Right, Lists, Board, Runoff}
+
+-- of a refusal the number of the cause and the first at fault; of an accepted call 0 and 0, but of an accepted month how many rights are short
+pub record Answer : Type 0 where
+  pub number : ℕ
+  pub place : ℕ
+
+abbrev pub numberOf : Verdict → ℕ
+numberOf Accepted = 0
+numberOf Layout = 1
+numberOf (Station i) = 2
+numberOf (Reservoir i) = 3
+numberOf (Pattern i) = 4
+numberOf (Right i) = 5
+numberOf Lists = 6
+numberOf Board = 7
+numberOf (Runoff i) = 8
+
+abbrev pub placeOf : Verdict → ℕ
+placeOf Accepted = 0
+placeOf Layout = 0
+placeOf (Station i) = i
+placeOf (Reservoir i) = i
+placeOf (Pattern i) = i
+placeOf (Right i) = i
+placeOf Lists = 0
+placeOf Board = 0
+placeOf (Runoff i) = i
+
+abbrev pub told : Verdict → Answer
+told v = record { number = numberOf v; place = placeOf v }

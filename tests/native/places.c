@@ -1,0 +1,26 @@
+/* That the places of river.h follow one another, from the first to the last of a board and of a report. It is compiled
+   and not run. */
+#include <assert.h>
+#include "river.h"
+
+static_assert(RIVER_BOARD_MONTH == 0, "a board begins with the month");
+static_assert(RIVER_BOARD_STORAGE(0) == RIVER_BOARD_MONTH + 1, "then the storages");
+static_assert(RIVER_BOARD_MARKS == RIVER_BOARD_STORAGE(RIVER_MOST_RESERVOIRS), "then the marks");
+static_assert(RIVER_BOARD_TAKEN(0) == RIVER_BOARD_MARKS + 1, "then what was taken");
+static_assert(RIVER_BOARD_DUE(0, 1) == RIVER_BOARD_TAKEN(RIVER_MOST_RIGHTS), "then the dues");
+static_assert(RIVER_BOARD_DUE(1, 1) == RIVER_BOARD_DUE(0, 11) + 1, "row after row");
+static_assert(RIVER_BOARD_LENGTH == RIVER_BOARD_DUE(RIVER_MOST_STATIONS, 1), "to the end");
+
+static_assert(RIVER_REPORT_FROM_RIVER(0) == 0, "a report begins with the first right");
+static_assert(RIVER_REPORT_FROM_STORAGE(0) == RIVER_REPORT_FROM_RIVER(0) + 1, "its part from storage");
+static_assert(RIVER_REPORT_REASON(0) == RIVER_REPORT_FROM_STORAGE(0) + 1, "its reason");
+static_assert(RIVER_REPORT_STATION(0) == RIVER_REPORT_REASON(0) + 1, "its station");
+static_assert(RIVER_REPORT_FROM_RIVER(1) == RIVER_REPORT_STATION(0) + 1, "right after right");
+static_assert(RIVER_REPORT_FLOW(5, 0) == RIVER_REPORT_FROM_RIVER(5), "then the stations");
+static_assert(RIVER_REPORT_AVAILABLE(5, 0) == RIVER_REPORT_FLOW(5, 0) + 1, "two numbers each");
+static_assert(RIVER_REPORT_FLOW(5, 1) == RIVER_REPORT_AVAILABLE(5, 0) + 1, "row after row");
+static_assert(RIVER_REPORT_EVAPORATION(5, 3, 0) == RIVER_REPORT_FLOW(5, 3), "then the reservoirs");
+static_assert(RIVER_REPORT_LENGTH(5, 3, 2) == RIVER_REPORT_EVAPORATION(5, 3, 2), "to the end");
+
+static_assert(sizeof(struct river_answer) == 16, "two numbers");
+static_assert(sizeof(struct river_sums) == 32, "four numbers");

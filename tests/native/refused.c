@@ -1,0 +1,112 @@
+/* The calls on the worked October: accepted once, then with one list or number wrong each time, which changes nothing.
+   Every list lies in memory of just its length, so that valgrind sees a read or a write beyond it. */
+#include <inttypes.h>
+#include <stdio.h>
+#include <stdlib.h>
+#include <string.h>
+#include "../../examples/read_file.h"
+#include "river.h"
+
+enum { STATIONS = 3, RESERVOIRS = 1, RIGHTS = 5 };
+#define REPORT_LENGTH RIVER_REPORT_LENGTH(RIGHTS, STATIONS, RESERVOIRS)
+
+static uint8_t *file;
+static size_t length;
+
+/* Some numbers, all 99. */
+static uint64_t *numbers(size_t count)
+{
+    uint64_t *list = (uint64_t *)malloc(count * sizeof *list);
+    if (list == NULL)
+        exit(1);
+    for (size_t place = 0; place < count; place++)
+        list[place] = 99;
+    return list;
+}
+
+static uint32_t *runoff_of(size_t count, uint32_t first, uint32_t others)
+{
+    uint32_t *runoff = (uint32_t *)malloc(count * sizeof *runoff);
+    if (runoff == NULL)
+        exit(1);
+    for (size_t row = 0; row < count; row++)
+        runoff[row] = row == 0 ? first : others;
+    return runoff;
+}
+
+static void print_answer(const char *what, struct river_answer answer)
+{
+    printf("%s: %" PRIu64 " %" PRIu64 "\n", what, answer.number, answer.place);
+}
+
+static void print_stock(const char *what, const uint64_t *board, size_t board_length)
+{
+    struct river_sums sums = river_stock(file, length, board, board_length);
+    printf("%s: %" PRIu64 " %" PRIu64 ", stored %" PRIu64 ", due %" PRIu64 "\n", what, sums.number, sums.place,
+           sums.storage, sums.due);
+}
+
+/* A month that is to be refused, on lists that are to stay as they are. */
+static void refused(const char *what, size_t runoffs, uint32_t others, const uint64_t *board, size_t board_length,
+                    size_t report_length)
+{
+    uint32_t *runoff = runoff_of(runoffs, RIVER_MOST_RUNOFF, others);
+    uint64_t *lent = numbers(board_length), *report = numbers(report_length), *blank = numbers(report_length);
+    size_t copied = board_length < RIVER_BOARD_LENGTH ? board_length : RIVER_BOARD_LENGTH;
+    memcpy(lent, board, copied * sizeof *lent);
+    print_answer(what, river_month(file, length, runoff, runoffs, lent, board_length, report, report_length));
+    if (memcmp(lent, board, copied * sizeof *lent) != 0 || (board_length > copied && lent[copied] != 99))
+        printf("    the board is changed\n");
+    if (memcmp(report, blank, report_length * sizeof *report) != 0)
+        printf("    the report is changed\n");
+    free(runoff);
+    free(lent);
+    free(report);
+    free(blank);
+}
+
+int main(int count, char **names)
+{
+    if (count != 2 || (file = read_file(names[1], &length)) == NULL)
+        return 1;
+    uint64_t *board = numbers(RIVER_BOARD_LENGTH), *report = numbers(REPORT_LENGTH);
+    uint64_t *shorter = numbers(RIVER_BOARD_LENGTH - 1);
+    uint32_t *runoff = runoff_of(STATIONS, 2000, 700);
+    runoff[2] = 300;
+
+    print_answer("check of no bytes", river_verdict(NULL, 0));
+    print_answer("fresh of no file", river_fresh(NULL, 0, board, RIVER_BOARD_LENGTH));
+    print_answer("fresh of no board", river_fresh(file, length, NULL, 0));
+    print_answer("fresh on a short board", river_fresh(file, length, shorter, RIVER_BOARD_LENGTH - 1));
+    print_answer("month of no list", river_month(NULL, 0, NULL, 0, NULL, 0, NULL, 0));
+    print_answer("month of no list but the file", river_month(file, length, NULL, 0, NULL, 0, NULL, 0));
+    print_stock("stock of no board", NULL, 0);
+    print_stock("stock of a board of 99", board, RIVER_BOARD_LENGTH);
+    for (size_t place = 0; place < RIVER_BOARD_LENGTH; place++)
+        if (board[place] != 99 || (place + 1 < RIVER_BOARD_LENGTH && shorter[place] != 99))
+            printf("    a board is changed at %zu\n", place);
+
+    print_answer("fresh", river_fresh(file, length, board, RIVER_BOARD_LENGTH));
+    print_stock("stock", board, RIVER_BOARD_LENGTH);
+    print_answer("October",
+                 river_month(file, length, runoff, STATIONS, board, RIVER_BOARD_LENGTH, report, REPORT_LENGTH));
+    print_stock("stock", board, RIVER_BOARD_LENGTH);
+
+    refused("runoff too short", STATIONS - 1, 0, board, RIVER_BOARD_LENGTH, REPORT_LENGTH);
+    refused("runoff too long", STATIONS + 1, 0, board, RIVER_BOARD_LENGTH, REPORT_LENGTH);
+    refused("board too short", STATIONS, 0, board, RIVER_BOARD_LENGTH - 1, REPORT_LENGTH);
+    refused("board too long", STATIONS, 0, board, RIVER_BOARD_LENGTH + 1, REPORT_LENGTH);
+    refused("report too short", STATIONS, 0, board, RIVER_BOARD_LENGTH, REPORT_LENGTH - 1);
+    refused("runoff over its limit", STATIONS, RIVER_MOST_RUNOFF + 1, board, RIVER_BOARD_LENGTH, REPORT_LENGTH);
+    board[RIVER_BOARD_MONTH] = 12;
+    refused("board in month 12", STATIONS, 0, board, RIVER_BOARD_LENGTH, REPORT_LENGTH);
+    refused("the same, runoff over its limit", STATIONS, UINT32_MAX, board, RIVER_BOARD_LENGTH, REPORT_LENGTH);
+    print_stock("stock", board, RIVER_BOARD_LENGTH);
+
+    free(file);
+    free(board);
+    free(report);
+    free(shorter);
+    free(runoff);
+    return 0;
+}

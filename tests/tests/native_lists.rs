@@ -1,0 +1,120 @@
+//! Lists as a caller may lend them to the static library: empty ones whose pointer leads
+//! nowhere, a file at any address, numbers with all their 64 bits. Feature `native`.
+
+use river_tests::engine::board::BOARD;
+use river_tests::engine::records::{MOST_RESERVOIRS, MOST_RIGHTS, MOST_STATIONS};
+use river_tests::engine::{fresh, month, report, stock};
+use river_tests::ffi;
+use river_tests::generate::{any_river, river_of, Rng, Size};
+use river_tests::lent::Lent;
+use std::ptr::NonNull;
+
+/// Room for the report of any basin.
+const REPORT: usize = report::length(MOST_RIGHTS, MOST_STATIONS, MOST_RESERVOIRS);
+
+/// No numbers, at an address that is aligned and not to be read.
+fn nowhere<N>() -> &'static [N] {
+    unsafe { std::slice::from_raw_parts(NonNull::dangling().as_ptr(), 0) }
+}
+
+fn nowhere_to_write<N>() -> &'static mut [N] {
+    unsafe { std::slice::from_raw_parts_mut(NonNull::dangling().as_ptr(), 0) }
+}
+
+/// Any of the four lists left out, alone and together. The file's refusal comes first.
+#[test]
+fn empty_lists_lead_nowhere() {
+    for seed in 0..40 {
+        let rng = &mut Rng::new(seed);
+        let river = any_river(rng);
+        let (runoff, board) = (river.runoff(rng), river.possible_board(rng));
+        let report = vec![9; river.basin.report_length()];
+        for left_out in 1..16 {
+            let [no_file, no_runoff, no_board, no_report] =
+                [0, 1, 2, 3].map(|list| left_out >> list & 1 == 1);
+            let at = format!("seed {seed}, left out {left_out:04b}");
+            let file = if no_file { nowhere() } else { &river.file };
+            let on_file = (no_file as u64, 0);
+            assert_eq!(ffi::check(file) as u64, on_file.0, "{at}");
+            assert_eq!(ffi::verdict(file), on_file, "{at}");
+
+            let (mut lent_board, mut lent_report) = (Lent::of(&board), Lent::of(&report));
+            let answer = ffi::month(
+                file,
+                if no_runoff { nowhere() } else { &runoff },
+                if no_board { nowhere_to_write() } else { lent_board.list() },
+                if no_report { nowhere_to_write() } else { lent_report.list() },
+            );
+            assert_eq!(answer, if no_file { (1, 0) } else { (6, 0) }, "{at}");
+            lent_board.assert_is(&board, "board", &at);
+            lent_report.assert_is(&report, "report", &at);
+
+            if no_file || no_board {
+                let number = if no_file { 1 } else { 6 };
+                let list = if no_board { nowhere_to_write() } else { lent_board.list() };
+                assert_eq!(ffi::stock(file, list), [number, 0, 0, 0], "{at}");
+                assert_eq!(ffi::fresh(file, list), (number, 0), "{at}");
+                lent_board.assert_is(&board, "board of fresh", &at);
+            }
+        }
+    }
+}
+
+/// A file is bytes, which lie at odd addresses as well.
+#[test]
+fn a_file_lies_at_any_address() {
+    for seed in 0..40 {
+        let rng = &mut Rng::new(seed);
+        let river = any_river(rng);
+        let (runoff, board) = (river.runoff(rng), river.possible_board(rng));
+        let (mut plain_board, mut plain_report) = (board.clone(), vec![9; REPORT]);
+        let plain = month(&river.file, &runoff, &mut plain_board, &mut plain_report);
+        assert_eq!(plain.0, 0);
+        for shift in 0..9 {
+            let at = format!("seed {seed}, moved by {shift}");
+            let moved = [&vec![0xff; shift], &river.file[..], &[0xff; 9]].concat();
+            let file = &moved[shift..][..river.file.len()];
+            assert_eq!(ffi::verdict(file), (0, 0), "{at}");
+            let mut fresh_board = [7; BOARD];
+            assert_eq!(ffi::fresh(file, &mut fresh_board), (0, 0), "{at}");
+            assert_eq!(ffi::stock(file, &fresh_board), stock(&river.file, &fresh_board), "{at}");
+            let (mut lent_board, mut report) = (Lent::of(&board), vec![9; REPORT]);
+            assert_eq!(ffi::month(file, &runoff, lent_board.list(), &mut report), plain, "{at}");
+            lent_board.assert_is(&plain_board, "board", &at);
+        }
+    }
+}
+
+/// One high bit set, at every place of a board in turn: a number that is cut to its low
+/// half would pass for the possible one.
+#[test]
+fn numbers_keep_all_their_bits() {
+    let mut refused = 0;
+    for seed in 0..12 {
+        let rng = &mut Rng::new(seed);
+        let size = [Size::One, Size::Middle, Size::Limit][seed as usize % 3];
+        let river = river_of(rng, size);
+        let runoff = river.runoff(rng);
+        let mut board = vec![0; BOARD];
+        assert_eq!(fresh(&river.file, &mut board), (0, 0));
+        for place in 0..BOARD {
+            for bit in [32, 41, 42, 63] {
+                let mut high = board.clone();
+                high[place] |= 1 << bit;
+                let told = stock(&river.file, &high);
+                let at = format!("seed {seed}, bit {bit} at place {place}");
+                assert_eq!(ffi::stock(&river.file, &high), told, "{at}");
+                let (mut lent, mut report) = (Lent::of(&high), vec![9; REPORT]);
+                let answer = ffi::month(&river.file, &runoff, lent.list(), &mut report);
+                assert_eq!(answer.0, told[0], "{at}");
+                if told[0] != 0 {
+                    assert_eq!(answer, (7, 0), "{at}");
+                    lent.assert_is(&high, "board", &at);
+                    assert!(report.iter().all(|&number| number == 9), "{at}");
+                    refused += 1;
+                }
+            }
+        }
+    }
+    assert!(refused > 30_000, "{refused}");
+}
