@@ -1,6 +1,6 @@
 -- One return point after another. Assumes nothing.
 use mathlib.Core.List.{List, [], _∷_, _++_}
-use mathlib.Core.Path.{_≡_, refl, sym, ap, _∙_}
+use mathlib.Core.Path.{_≡_, refl, sym, ap, _∙_, subst}
 use Prim.Native.Nat.{ℕ, zero, suc, _+_, _-_, _*_, _/_, _≤_, _<_}
 use native.Mathlib.Numerals.{add-one}
 use native.Mathlib.Omega.{arith}
@@ -162,3 +162,23 @@ module _ (t pattern ri : List ℕ) (i rest : ℕ) (f a bd : List ℕ) where
         within = λ x l. put-within f₁ a₁ (pathBy t (q .row)) at-once f₂ a₂ back x l (w .within x l);
         filled = λ j. omega (arith, lagged-le pattern (q .amount) (duesOf (q .row)) bd₁ 11 bd₂ whole split j, w .filled j, small);
       }
+
+-- ---- where nothing returns
+
+lag-nothing : (pattern : List ℕ) (d at : ℕ) (l : List ℕ) → d ≡ 0 → sum pattern ≡ 100 → Lagged pattern d at 11 l l
+lag-nothing pattern d at l e whole = record { size = refl; each = λ j h. omega (arith, share-le d pattern (suc j) whole); under = λ j h. refl; over = λ j h. refl }
+
+module _ (t pattern ri : List ℕ) (i rest : ℕ) (f a bd : List ℕ) (e : rest ≡ 0) (whole : sum pattern ≡ 100) (within : (w : ℕ) → w < 64 → getD a w 0 ≤ getD f w 0) where
+  nothing-at : (k : ℕ) → (partIn ri i rest k) .amount ≡ 0
+  unfolding partIn
+  nothing-at k = rw e (omega arith)
+
+  pub gave-nothing : (n : ℕ) → n ≤ 4 → ((k : ℕ) → k < n → returnRow ri i k < 64) → Gave t pattern ri i n rest f a bd f a bd
+  unfolding partIn
+  gave-nothing zero few rows = gave-none t pattern ri i rest f a bd within
+  gave-nothing (suc n) few rows =
+      let q : Part = partIn ri i rest n in
+      let z : q .amount ≡ 0 = nothing-at n in
+      subst (λ (k : ℕ). Gave t pattern ri i k rest f a bd f a bd) (add-one n)
+      (gave-more t pattern ri i rest f a bd n f a bd (gave-nothing n (omega arith) (λ k h. rows k (omega arith))) (omega arith) q 0 0 f a bd refl whole (rows n (omega arith)) (omega arith)
+      (omega (arith, share-le (q .amount) pattern 0 whole)) (lag-nothing pattern (q .amount) (duesOf (q .row)) bd z whole) (put-nothing f a (pathBy t (q .row)) 0 refl))

@@ -70,7 +70,8 @@ fn give_points(
     }
 }
 
-// What returns goes back at the right's points. A right without points names no pattern, and the table is not copied for it.
+// What returns goes back at the right's points. A right without points names no pattern, and many a diversion is 0: for those the
+// table is not copied.
 pub fn give_returns(
     below: &[u8; 64],
     patterns: &[[u8; 12]; 16],
@@ -84,6 +85,9 @@ pub fn give_returns(
     ensures { λ _. ⌜ Gave (now (below .entry)) (getD (now (patterns .entry)) (back .pattern) []) (now (rights .entry)) (back .right) (back .points) (back .amount) (now (flow .entry)) (now (available .entry)) (now (board .entry)) (now (flow .exit)) (now (available .exit)) (now (board .exit)) ⌝ }
 {
     if back.points == 0 {
+        return;
+    }
+    if back.amount == 0 {
         return;
     }
     give_points(below, *patterns, rights, back, flow, available, board);
