@@ -34,8 +34,7 @@ fn put_small(out: &mut [u8], at: usize, n: u64) -> usize
     at + 2
 }
 
-// Four digits to a division of a large number. The digits in front are put first, so none are counted before they are put, and most numbers
-// of a listing are small and take one test.
+// Four digits to a division of a large number. The digits in front are put first, so none are counted before they are put.
 fn put_number(out: &mut [u8], at: usize, n: u64) -> usize
     requires { ⌜ at + length (decimalText n) ≤ length (now out) ⌝ }
     ensures { λ r. ⌜ PutWhole at (decimalText n) (now (out .entry)) (now (out .exit)) r ⌝ }
@@ -55,12 +54,23 @@ fn put_number(out: &mut [u8], at: usize, n: u64) -> usize
     next + 4
 }
 
+// Most numbers of a listing are small, and one test spares them the call of a function that calls itself.
+fn put_decimal(out: &mut [u8], at: usize, n: u64) -> usize
+    requires { ⌜ at + length (decimalText n) ≤ length (now out) ⌝ }
+    ensures { λ r. ⌜ PutWhole at (decimalText n) (now (out .entry)) (now (out .exit)) r ⌝ }
+{
+    if n < 100 {
+        return put_small(out, at, n);
+    }
+    put_number(out, at, n)
+}
+
 // A number and the byte after it: a space, or the line's end. No number has more than 20 digits.
 pub fn put_field(out: &mut [u8], at: usize, n: u64, after: u8) -> usize
     requires { ⌜ at + 21 ≤ length (now out) ⌝ }
     ensures { λ r. ⌜ Put 21 at (decimalText n ++ (after ∷ [])) (now (out .entry)) (now (out .exit)) r ⌝ }
 {
-    let next = put_number(out, at, n);
+    let next = put_decimal(out, at, n);
     out[next] = after;
     next + 1
 }
