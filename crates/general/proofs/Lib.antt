@@ -4,7 +4,6 @@ pub mod Search
 pub mod Sums
 pub mod Lists
 pub mod Tables
-pub mod Iterate
 pub mod Loops
 pub mod Routes
 pub mod Fill

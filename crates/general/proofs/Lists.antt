@@ -50,14 +50,6 @@ pub all-append : {A : Type 0} (P : A → Type 0) (l : List A) (x : A) → All P 
 all-append P [] x h k = (k, tt)
 all-append P (y ∷ l) x h k = (h .0, all-append P l x (h .1) k)
 
-pub all-from : {A : Type 0} (P : A → Type 0) (l : List A) (d : A) → ((i : ℕ) → i < length l → P (getD l i d)) → All P l
-all-from P [] d h = tt
-all-from P (x ∷ l) d h = (h 0 (omega arith), all-from P l d (λ i k. h (suc i) (omega arith)))
-
-pub all-map : {A : Type 0} (P Q : A → Type 0) (l : List A) → ((x : A) → P x → Q x) → All P l → All Q l
-all-map P Q [] f h = tt
-all-map P Q (x ∷ l) f h = (f x (h .0), all-map P Q l f (h .1))
-
 pub all-at-place : {A : Type 0} (P : A → Type 0) (l : List A) (d : A) → All P l → (i : ℕ) → i < length l → P (getD l i d)
 all-at-place P [] d h i k = absurd (omega arith)
 all-at-place P (x ∷ l) d h zero k = h .0

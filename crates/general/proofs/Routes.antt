@@ -97,10 +97,3 @@ module _ (next : ℕ → Option ℕ) where
 
     pub route-rising : (r : ℕ) → r < n → Rising (follow next n r)
     route-rising r h = by-route (λ x p. Rising p) (λ x l e. tt) (λ x q l e a b ih. rising-cons x q (follow next n q) a (route-head q b) ih) r h
-
--- two ways to step that agree below n
-pub route-same : (next step : ℕ → Option ℕ) (n : ℕ) → Later next n → Later step n → ((r : ℕ) → r < n → next r ≡ step r) → (r : ℕ) → r < n → follow next n r ≡ follow step n r
-route-same next step n l m e r h = by-route next n l (λ x p. p ≡ follow step n x)
-    (λ x k z. sym (route-end step n m x k (sym (e x k) ∙ z)))
-    (λ x q k z a b ih. ap (λ (p : List ℕ). x ∷ p) ih ∙ sym (route-row step n m x q k (sym (e x k) ∙ z)))
-    r h

@@ -77,10 +77,5 @@ le-not (negsuc a) (negsuc b) e = le-make (omega (arith, nleb→lt b a (rw e tt))
 pub le-transℤ : {a b c : ℤ} → a ≤ℤ b → b ≤ℤ c → a ≤ℤ c
 le-transℤ {a} {b} {c} h k = le-make (omega (arith, le-read h, le-read k))
 
--- what is not below zero is a natural number
-pub natural : (z : ℤ) → pos 0 ≤ℤ z → pos (up z) ≡ z
-natural (pos n) h = refl
-natural (negsuc n) h = absurd (h .le)
-
 -- with this list omega proves orders of ℤ
 pub ruleset signed = (arith, le-read, le-make)

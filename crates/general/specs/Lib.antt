@@ -1,5 +1,4 @@
 pub mod Sums
 pub mod Tables
 pub mod Tests
-pub mod Iterate
 pub mod Routes

@@ -2,7 +2,7 @@
 use mathlib.Core.Bool.{Bool, true, false, cond}
 use mathlib.Core.List.{List, []}
 use mathlib.Core.Path.{_≡_, refl, sym, ap, _∙_, subst}
-use Prim.Native.Nat.{ℕ, suc, _-_, _≤_, _<_}
+use Prim.Native.Nat.{ℕ, suc, _≤_, _<_}
 use native.Mathlib.Decide.{decLt}
 use native.Mathlib.Omega.{arith}
 use lib.Dec.{ltb, eqb}
@@ -116,9 +116,6 @@ module _ (st rs ps ri runoff bd rp : List ℕ) (c : CanRun st rs ps ri runoff bd
   pub run-patterns : patternCount ps ≤ 16
   unfolding bodies patternsOf
   run-patterns = omega (arith, tab-length (patternOf ps) (patternCount ps), c .accepted .few-patterns)
-
-  pub run-rights : rightCount ri ≤ 256
-  run-rights = omega (arith, bodies-rights st rs ps ri, c .accepted .few-rights)
 
   pub can-open : CanOpen (length runoff) bd
   can-open = record {

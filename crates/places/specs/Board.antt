@@ -30,7 +30,7 @@ abbrev pub duesFrom : ℕ
 duesFrom = 266
 
 abbrev pub duesOf : ℕ → ℕ
-duesOf w = 266 + 11 * w
+duesOf w = duesFrom + 11 * w
 
 -- of row w the one that arrives k months after the coming month
 abbrev pub duePlace : ℕ → ℕ → ℕ

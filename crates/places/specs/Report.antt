@@ -22,7 +22,7 @@ abbrev pub stationPlace : ℕ → ℕ
 stationPlace i = fromRiverPlace i + 3
 
 abbrev pub linesEnd : ℕ → ℕ
-linesEnd n = 4 * n
+linesEnd n = fromRiverPlace n
 
 -- the two numbers of row w: flow and available flow
 abbrev pub flowPlace : ℕ → ℕ → ℕ
@@ -32,7 +32,7 @@ abbrev pub availablePlace : ℕ → ℕ → ℕ
 availablePlace n w = flowPlace n w + 1
 
 abbrev pub rowsEnd : ℕ → ℕ → ℕ
-rowsEnd n h = linesEnd n + 2 * h
+rowsEnd n h = flowPlace n h
 
 -- the evaporation of reservoir v
 abbrev pub evaporationPlace : ℕ → ℕ → ℕ → ℕ
@@ -40,7 +40,7 @@ evaporationPlace n h v = rowsEnd n h + v
 
 -- how many numbers a month tells
 abbrev pub reportEnd : ℕ → ℕ → ℕ → ℕ
-reportEnd n h v = rowsEnd n h + v
+reportEnd n h v = evaporationPlace n h v
 
 -- the most that any basin has to tell
 abbrev pub mostReport : ℕ

@@ -46,5 +46,5 @@ pub fn due_place(w: usize, k: usize) -> usize
     requires { ⌜ (w < 64) × (k < 11) ⌝ }
     ensures { λ p. ⌜ p ≡ duePlace w k ⌝ }
 {
-    DUES + MONTHS_DUE * w + k
+    dues_of(w) + k
 }

@@ -1,7 +1,7 @@
 // The places of a report.
 ghost use mathlib.Core.Path.{_≡_};
 ghost use Prim.Native.Nat.{_≤_};
-ghost use Rattle.places.specs.Report.{fromRiverPlace, flowPlace, linesEnd, rowsEnd, reportEnd};
+ghost use Rattle.places.specs.Report.{fromRiverPlace, flowPlace, rowsEnd, reportEnd};
 
 // The numbers of the longest report: that of a basin with as many of each as a file may have.
 pub const MOST_REPORT: usize = 1160;
@@ -24,20 +24,12 @@ pub fn line_place(i: usize) -> usize
     4 * i
 }
 
-// Where the lines of n rights end, and the rows begin.
-pub fn lines_end(n: usize) -> usize
-    requires { ⌜ n ≤ 256 ⌝ }
-    ensures { λ p. ⌜ p ≡ linesEnd n ⌝ }
-{
-    4 * n
-}
-
 // The flow of row w in a basin of n rights.
 pub fn flow_place(n: usize, w: usize) -> usize
     requires { ⌜ (n ≤ 256) × (w ≤ 64) ⌝ }
     ensures { λ p. ⌜ p ≡ flowPlace n w ⌝ }
 {
-    4 * n + 2 * w
+    line_place(n) + 2 * w
 }
 
 // Where the rows end, and the evaporations begin, in a basin of n rights and h rows.
@@ -45,7 +37,7 @@ pub fn rows_end(n: usize, h: usize) -> usize
     requires { ⌜ (n ≤ 256) × (h ≤ 64) ⌝ }
     ensures { λ p. ⌜ p ≡ rowsEnd n h ⌝ }
 {
-    4 * n + 2 * h
+    flow_place(n, h)
 }
 
 // Where a report ends, in a basin of n rights, h rows and v reservoirs.
@@ -53,5 +45,5 @@ pub fn report_end(n: usize, h: usize, v: usize) -> usize
     requires { ⌜ (n ≤ 256) × (h ≤ 64) × (v ≤ 8) ⌝ }
     ensures { λ p. ⌜ p ≡ reportEnd n h v ⌝ }
 {
-    4 * n + 2 * h + v
+    rows_end(n, h) + v
 }

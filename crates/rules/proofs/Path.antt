@@ -10,7 +10,7 @@ use lib.ListN.{length}
 use Rattle.general.specs.Tables.{Rising}
 use Rattle.general.specs.Tests.{has}
 use Rattle.general.proofs.Tests.{absurd-bool, eqb-same, eqb-other, by-eqb}
-use Rattle.general.proofs.Routes.{route-row, route-end, by-route, route-from, route-in, route-self, route-head, route-rising}
+use Rattle.general.proofs.Routes.{route-row, route-end, by-route, route-in, route-head, route-rising}
 use Rattle.general.proofs.Search.{has-none, has-head, has-tail, has-other, has-single, first-within}
 use Rattle.rules.specs.Basin.{Station, Basin, rows}
 use Rattle.rules.specs.Path.{rowBelow, path, untilRow, lastRow}
@@ -59,19 +59,10 @@ module _ (st : List Station) where
     unfolding path
     by-path r h = by-route (rowBelow st) (length st) later P at-end at-row r h
 
-  -- rows on a path are the row itself or later ones
-  pub path-from : (r : ℕ) → r < length st → (i : ℕ) → i < r → has i (path st r) ≡ false
-  unfolding path
-  path-from r h = route-from (rowBelow st) (length st) later r h
-
-  -- and rows of the list
+  -- rows on a path are rows of the list
   pub path-in : (r : ℕ) → r < length st → (i : ℕ) → has i (path st r) ≡ true → i < length st
   unfolding path
   path-in r h = route-in (rowBelow st) (length st) later r h
-
-  pub path-self : (r : ℕ) → r < length st → has r (path st r) ≡ true
-  unfolding path
-  path-self r h = route-self (rowBelow st) (length st) later r h
 
   -- it begins with its row
   pub path-head : (r : ℕ) → r < length st → (p : List ℕ) × (path st r ≡ r ∷ p)

@@ -2,7 +2,6 @@
 use borrow.Author.Needs.{needs}
 use Rattle.closing.proofs.end.Statement.{statement}
 use Rattle.closing.proofs.end.Tie as tie
-use Prim.Native.Nat.{_-_}
 use native.Mathlib.Omega.{arith}
 use denote.Ref.{now}
 use Rattle.closing.proofs.Rows.{ended-of}

@@ -1,6 +1,5 @@
 -- `numbers::bit_of` meets its contract. Assumes nothing.
 use Rattle.general.specs.Tests.{bit}
-use Prim.Native.Nat.{_-_}
 use mathlib.Core.Path.{refl}
 use borrow.Author.Needs.{needs}
 use Rattle.numbers.proofs.bit_of.Statement.{statement}

@@ -5,7 +5,6 @@ use Rattle.general.specs.Tables.{tab}
 use Rattle.rules.specs.Month.{areaFrom, areaAt}
 use Rattle.records.specs.Records.{reservoirOf}
 use Rattle.closing.specs.Losses.{areaBy}
-use Prim.Native.Nat.{_-_}
 use borrow.Author.Needs.{needs}
 use Rattle.closing.proofs.losses.area_at.Statement.{statement}
 use Rattle.closing.proofs.losses.area_at.Tie as tie

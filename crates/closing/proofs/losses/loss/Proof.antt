@@ -2,7 +2,7 @@
 use mathlib.Core.Path.{sym, ap, _∙_}
 use native.Mathlib.Omega.{arith}
 use native.Mathlib.Nat.{mul-le-mul}
-use Prim.Native.Nat.{ℕ, _≤_, _*_, min, _-_}
+use Prim.Native.Nat.{ℕ, _≤_, _*_, min}
 use denote.Ref.{now}
 use Rattle.general.proofs.Tables.{tab-at}
 use Rattle.rules.specs.Month.{areaAt, evaporation}

@@ -1,6 +1,5 @@
 -- `grants::grants::station_number` meets its contract. Assumes nothing.
 use Rattle.grants.proofs.Looks.{number-is}
-use Prim.Native.Nat.{_-_}
 use mathlib.Core.Path.{sym, _∙_}
 use native.Mathlib.Omega.{arith}
 use borrow.Author.Needs.{needs}

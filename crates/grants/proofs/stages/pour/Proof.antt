@@ -4,7 +4,7 @@ use Rattle.places.proofs.BoardPlaces.{place-read}
 use Rattle.records.specs.declared.reservoirs.ReservoirRecord.{ReservoirRecord}
 use Rattle.grants.specs.Stages.{capacityIn}
 use Rattle.grants.proofs.RightKinds.{nine-at, poured-none, poured-part, poured-at}
-use Prim.Native.Nat.{_^_, ℕ, _+_, _-_}
+use Prim.Native.Nat.{_^_, ℕ, _+_}
 use mathlib.Core.Path.{sym, ap, _∙_}
 use native.Mathlib.Omega.{arith}
 use borrow.Author.Needs.{needs}

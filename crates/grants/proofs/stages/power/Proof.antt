@@ -1,6 +1,5 @@
 -- `grants::stages::power` meets its contract. Assumes nothing.
 use Rattle.grants.proofs.RightKinds.{shifted}
-use Prim.Native.Nat.{_-_}
 use borrow.Author.Needs.{needs}
 use Rattle.grants.proofs.stages.power.Statement.{statement}
 use Rattle.grants.proofs.stages.power.Tie as tie

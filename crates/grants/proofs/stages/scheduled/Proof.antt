@@ -2,7 +2,7 @@
 use Rattle.records.specs.Records.{rightRecord, amountAt}
 use Rattle.records.specs.declared.rights.RightRecord.{RightRecord}
 use Rattle.grants.proofs.RightKinds.{amount-yes, amount-no}
-use Prim.Native.Nat.{ℕ, _-_}
+use Prim.Native.Nat.{ℕ}
 use mathlib.Core.Path.{_≡_, sym, ap, _∙_}
 use borrow.Author.Needs.{needs}
 use denote.Ref.{now}

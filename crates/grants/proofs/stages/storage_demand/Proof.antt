@@ -1,5 +1,5 @@
 -- `grants::stages::storage_demand` meets its contract. Assumes nothing.
-use Prim.Native.Nat.{_-_, min}
+use Prim.Native.Nat.{min}
 use mathlib.Core.Path.{ap, _∙_}
 use borrow.Author.Needs.{needs}
 use Rattle.grants.proofs.stages.storage_demand.Statement.{statement}

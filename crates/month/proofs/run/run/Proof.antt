@@ -3,7 +3,7 @@ use borrow.Author.Needs.{needs}
 use Rattle.month.proofs.run.run.Statement.{statement}
 use Rattle.month.proofs.run.run.Tie as tie
 use mathlib.Core.Path.{ap}
-use Prim.Native.Nat.{ℕ, _-_}
+use Prim.Native.Nat.{ℕ}
 use native.Mathlib.Omega.{arith}
 use lib.ListN.{getD}
 use mathlib.Core.List.{List}

@@ -1,6 +1,5 @@
 -- `turns::lines::name` meets its contract. Assumes nothing.
 use mathlib.Core.Path.{sym, ap, _∙_}
-use Prim.Native.Nat.{_-_}
 use denote.Ref.{now}
 use Rattle.turns.specs.State.{whyOf, namedBy}
 use Rattle.turns.specs.Lines.{reservoirStation}

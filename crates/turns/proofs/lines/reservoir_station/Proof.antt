@@ -1,7 +1,6 @@
 -- `turns::lines::reservoir_station` meets its contract. Assumes nothing.
 use mathlib.Core.Path.{ap, _∙_}
 use native.Mathlib.Omega.{arith}
-use Prim.Native.Nat.{_-_}
 use denote.Ref.{now}
 use Rattle.records.specs.Records.{stationsOf}
 use Rattle.rules.specs.Turn.{numberAt}

@@ -1,7 +1,6 @@
 -- `turns::lines::why` meets its contract. Assumes nothing.
 use mathlib.Core.Path.{sym, ap}
 use Rattle.turns.specs.State.{whyOf}
-use Prim.Native.Nat.{_-_}
 use borrow.Author.Needs.{needs}
 use Rattle.turns.proofs.lines.why.Statement.{statement}
 use Rattle.turns.proofs.lines.why.Tie as tie
