@@ -91,14 +91,14 @@ october='0 11 1500 0 0 0
 0 13 701 0 2 300
 0 14 0 600 0 0
 0 15 0 0 1 100
-0 end 0 50 1051 403'
+0 end 0 75 1026 403'
 # The same sheet again, worked out by hand. Flow is 2000, 2700 and, with the 242 due, 3242. 11 and 12 are whole; 805 return as before, 402 of them
 # at once. 13 demands 900 of 2000, 1499, 943 and has them. 14 finds 599 and 43: 43 from the river, 557 from storage. 15 finds nothing at 300.
-# Stored: 1051 + 900 - 557. On their way: 161 and again 242 and 161.
+# Stored: 1026 + 900 - 557. On their way: 161 and again 242 and 161.
 november='1 11 1500 0 0 0
 1 12 1201 0 0 0
 1 13 900 0 0 0
 1 14 43 557 0 0
 1 15 0 0 2 300
-1 end 0 0 1394 564'
+1 end 0 0 1369 564'
 missing='No such file or directory'

@@ -5,7 +5,7 @@ use crate::engine::records::*;
 
 mod bodies;
 mod rng;
-use bodies::{stations_of, up_to, with_bodies};
+use bodies::{extreme_table, stations_of, up_to, with_bodies};
 pub use rng::Rng;
 
 /// How many of each there are.
@@ -51,7 +51,12 @@ pub fn any_river(rng: &mut Rng) -> River {
 pub fn river_of(rng: &mut Rng, size: Size) -> River {
     let volume = *rng.pick(&[Volume::Drops, Volume::Usual, Volume::Usual, Volume::Limit]);
     let water = *rng.pick(&[Water::Tight, Water::Even, Water::Loose]);
-    river(rng, size, volume, water)
+    let mut river = river(rng, size, volume, water);
+    if rng.chance(20) {
+        river.basin.reservoirs.iter_mut().for_each(|lake| extreme_table(rng, lake));
+        river.file = river.basin.encode();
+    }
+    river
 }
 
 pub fn river(rng: &mut Rng, size: Size, volume: Volume, water: Water) -> River {

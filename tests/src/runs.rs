@@ -1,8 +1,8 @@
 //! The runs that program `riverrun` is put to under the gate: two files each, of
 //! which either may be missing, and the listing that the rules give them.
 
-use crate::engine::records::{Basin, MOST_RUNOFF};
-use crate::examples::{months_bytes, october};
+use crate::engine::records::{Basin, MONTHS, MOST_RUNOFF};
+use crate::examples::{months_bytes, october, project, reservoir, stations};
 use crate::generate::{river, Rng, Size, Volume, Water};
 use crate::listing::listing;
 
@@ -44,6 +44,8 @@ pub fn runs(provo: [Vec<u8>; 2]) -> Vec<Run> {
     let mut all = vec![
         run("october", Some(file()), Some(sheet.clone())),
         run("provo", Some(provo_basin), Some(provo_months)),
+        dry_year("lake_drawn_down", drawn_down()),
+        dry_year("lake_of_extreme_numbers", extreme()),
         run("no_month", Some(file()), Some(Vec::new())),
         run("no_months_file", Some(file()), None),
         run("no_basin_file", None, Some(sheet.clone())).refused("refused 1 0"),
@@ -78,6 +80,32 @@ pub fn runs(provo: [Vec<u8>; 2]) -> Vec<Run> {
 
 fn run(name: &'static str, basin: Option<Vec<u8>>, months: Option<Vec<u8>>) -> Run {
     Run { name, basin, months, refusal: None }
+}
+
+/// Twelve months without runoff on a river of one row and one lake.
+fn dry_year(name: &'static str, basin: Basin) -> Run {
+    run(name, Some(basin.encode()), Some(months_bytes(&[0; 12])))
+}
+
+/// A lake that a project right draws down along its whole area-capacity table, from above
+/// the last pair; its areas fall, stay and rise.
+fn drawn_down() -> Basin {
+    let mut lake = reservoir(0, 1200, 1200, [(0, 2), (300, 13), (500, 13), (900, 4)]);
+    lake.depths = [1; MONTHS];
+    Basin {
+        stations: stations(&[(100, 1)]),
+        reservoirs: vec![lake],
+        rights: vec![project(1, 19000101, 0, 0, 100)],
+        ..Basin::default()
+    }
+}
+
+/// The largest lake and table: from 1,000,000 acres to none between 2 and 2^32 - 1 units.
+fn extreme() -> Basin {
+    let table = [(0, 1_000_000), (1, 0), (2, 1_000_000), (u32::MAX, 0)];
+    let mut lake = reservoir(0, 2_000_000_000, 2_000_000_000, table);
+    lake.depths = [300; MONTHS];
+    Basin { stations: stations(&[(100, 1)]), reservoirs: vec![lake], ..Basin::default() }
 }
 
 /// A right without return points that would return part of its grant.

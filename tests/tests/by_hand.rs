@@ -265,13 +265,14 @@ fn evaporation_after_the_rights() {
             ..Basin::default()
         };
         let mut run = Run::of(calls, &basin);
-        // 90 + 10 reach the second pair: 7 acres, 70 units; 30 are left.
+        // 90 + 10 are at the second pair: 7 acres, 70 units; 30 are left.
         run.month(&[500]);
         assert_eq!((run.evaporation()[0], run.board[STORAGES]), (70, 30));
-        // 30 + 10 with 3 acres lose 30; then 10 + 10 would lose 30 and lose 20.
+        // 30 + 10 have 3 acres and 40 hundredths of the 4 to the next pair, floored to 1:
+        // all 40 are lost. Then 10 would lose 30 and lose 10.
         run.month(&[500]);
-        assert_eq!((run.evaporation()[0], run.board[STORAGES]), (30, 10));
+        assert_eq!((run.evaporation()[0], run.board[STORAGES]), (40, 0));
         run.month(&[500]);
-        assert_eq!((run.evaporation()[0], run.board[STORAGES]), (20, 0));
+        assert_eq!((run.evaporation()[0], run.board[STORAGES]), (10, 0));
     });
 }

@@ -65,6 +65,28 @@ fn sheets_hold_as_much_water_as_they_should() {
     }
 }
 
+/// Where on the area-capacity table the starting storage stands, and extreme numbers of it.
+fn see_table(lake: &Reservoir, see: &mut impl FnMut(String)) {
+    let table = &lake.area_capacity;
+    for pairs in table.windows(2) {
+        if (pairs[0].storage + 1..pairs[1].storage).contains(&lake.start) {
+            see(format!("start where the area goes {:?}", pairs[1].area.cmp(&pairs[0].area)));
+        }
+        if pairs[0].area.abs_diff(pairs[1].area) == 1_000_000 {
+            see("areas 0 and 1,000,000".into());
+        }
+    }
+    if table[1..].iter().any(|pair| pair.storage == lake.start) {
+        see("start at a pair".into());
+    }
+    if table[3].storage < lake.start {
+        see("start above the last pair".into());
+    }
+    if table[3].storage == u32::MAX {
+        see("table up to 4,294,967,295".into());
+    }
+}
+
 /// Each thing the generator is said to cover does occur.
 #[test]
 fn coverage() {
@@ -79,6 +101,7 @@ fn coverage() {
             }
         }
         for (place, lake) in basin.reservoirs.iter().enumerate() {
+            see_table(lake, &mut see);
             if basin.reservoirs[..place].iter().any(|other| other.row == lake.row) {
                 see("two reservoirs on a row".into());
             }
@@ -113,6 +136,13 @@ fn coverage() {
         "path leaves out a row",
         "two reservoirs on a row",
         "full at the start",
+        "start where the area goes Less",
+        "start where the area goes Equal",
+        "start where the area goes Greater",
+        "areas 0 and 1,000,000",
+        "start at a pair",
+        "start above the last pair",
+        "table up to 4,294,967,295",
         "undated",
         "equal dates",
         "return on another tributary",

@@ -16,7 +16,7 @@ MONTH PERMIT RIVER STORE WHY AT
 0 13 701 0 2 300
 0 14 0 600 0 0
 0 15 0 0 1 100
-0 end 0 50 1051 403
+0 end 0 75 1026 403
 ";
 
 #[test]
@@ -40,13 +40,14 @@ fn board_and_report_by_hand() {
     start[1] = 1000;
     // Right 12 returns 1201 - 396 = 805: 402 now, 242 and 161 later.
     // Flow at row 0: 2000 - 701 stored + 600 released; row 1: 2700 - 1201 - 701;
-    // row 2: 3000 - 1500 - 1201 + 402 - 701 = 0.
+    // row 2: 3000 - 1500 - 1201 + 402 - 701 = 0. The lake, at 1101 on the way from 10 acres
+    // at 0 to 20 at 2000, has 15: with a depth of 5 it loses 75.
     let mut told = vec![1500, 0, 0, 0, 1201, 0, 0, 0, 701, 0, 2, 300];
     told.extend([0, 600, 0, 0, 0, 0, 1, 100]);
-    told.extend([1899, 1299, 798, 798, 0, 0, 50, 99, 99]);
+    told.extend([1899, 1299, 798, 798, 0, 0, 75, 99, 99]);
     let mut after = vec![0; BOARD];
     after[0] = 1;
-    after[1] = 1000 + 701 - 600 - 50;
+    after[1] = 1000 + 701 - 600 - 75;
     after[10 + 2] = 701;
     after[266 + 11 * 2] = 242;
     after[266 + 11 * 2 + 1] = 161;
@@ -65,7 +66,7 @@ fn board_and_report_by_hand() {
         }
         assert_eq!(report, told);
         assert_eq!(board, after);
-        assert_eq!((calls.stock)(&file, &board), [0, 0, 1051, 403]);
+        assert_eq!((calls.stock)(&file, &board), [0, 0, 1026, 403]);
     });
 }
 
@@ -73,7 +74,7 @@ fn board_and_report_by_hand() {
 fn tally_of_october() {
     let mut tally = Tally::new(&october().encode());
     assert_eq!(tally.call(&OCTOBER_RUNOFF, 27), (0, 2));
-    assert_eq!(tally.storages, [1051]);
+    assert_eq!(tally.storages, [1026]);
     assert_eq!(tally.pending_returns()[2][..3], [242, 161, 0]);
 }
 
@@ -94,8 +95,9 @@ fn marked_list() {
     }
     assert_eq!(consumption(&Faithful, 1, 33), 0);
     let table = october().reservoirs[0].area_capacity;
-    for (storage, acres) in [(1999, 10), (2000, 20), (7500, 40)] {
+    for (storage, acres) in [(1999, 19), (2000, 20), (7500, 40)] {
         assert_eq!(area(&Faithful, &table, storage), acres);
+        assert_eq!(tally::area(&table, storage as i128), acres as i128);
     }
     assert_eq!(tally::row_below(&october().stations, 0), Some(1));
     assert_eq!(tally::path(&october().stations, 0), [0, 1, 2]);
@@ -131,7 +133,7 @@ fn marked_list_in_months() {
             assert_eq!((run.board[due(1, 1)], run.board[due(1, 2)]), (next, after));
             assert_eq!(run.stock(), [0, 0, 0, next + after]);
         }
-        for (storage, acres) in [(1999, 10), (2000, 20), (7500, 40)] {
+        for (storage, acres) in [(1999, 19), (2000, 20), (7500, 40)] {
             let mut run = Run::of(calls, &lake(storage));
             run.month(&OCTOBER_RUNOFF);
             assert_eq!(run.evaporation(), [acres]);

@@ -147,21 +147,22 @@ fn called_by_a_short_right_on_the_path() {
     });
 }
 
-/// Lakes of the RESYLD report, by 01's step table: depth 25, one October.
+/// Lakes of the RESYLD report, which reads areas on a straight line as 02, No. 1 does and
+/// prints the evaporation in acre-feet: depth 25, one October.
 #[test]
-fn lake_areas_by_the_step_table() {
+fn lake_areas_on_a_line() {
     by_each(|calls| {
         let acre_feet = |pairs: [(u32, u32); 4]| pairs.map(|(storage, area)| (100 * storage, area));
         let a = acre_feet([(0, 0), (93706, 6000), (162871, 7824), (250358, 9683)]);
         let c = acre_feet([(0, 0), (1652, 308), (12856, 2078), (43402, 4048)]);
         let d = acre_feet([(0, 0), (12856, 2078), (43402, 4048), (93706, 6000)]);
         let lakes = [
-            (18_000_000, a, 195_600),
-            (22_431_550, a, 195_600),
-            (4_255_350, c, 51_950),
-            (6_968_750, d, 101_200),
+            (18_000_000, a, 204_675, 2047),
+            (22_431_550, a, 228_225, 2282),
+            (4_255_350, c, 99_825, 998),
+            (6_968_750, d, 126_675, 1267),
         ];
-        for (start, pairs, evaporation) in lakes {
+        for (start, pairs, evaporation, printed) in lakes {
             let mut lake = reservoir(0, 2_000_000_000, start, pairs);
             lake.depths[0] = 25;
             let basin =
@@ -169,6 +170,7 @@ fn lake_areas_by_the_step_table() {
             let mut run = Run::of(calls, &basin);
             run.month(&[0]);
             assert_eq!(run.evaporation(), [evaporation]);
+            assert_eq!((evaporation + 50) / 100, printed);
             assert_eq!(run.stock(), [0, 0, start as u64 - evaporation, 0]);
         }
     });

@@ -34,7 +34,7 @@ fn october_as_printed_in_the_rules() {
 0 13 701 0 2 300
 0 14 0 600 0 0
 0 15 0 0 1 100
-0 end 0 50 1051 403
+0 end 0 75 1026 403
 ";
     let (basin, months) = (october().encode(), months_bytes(&OCTOBER_RUNOFF));
     assert_eq!(printed("october", Some(&basin), Some(&months)), format!("{HEADER}{end}"));

@@ -56,7 +56,7 @@ fn expected_listings_are_what_the_rules_say() {
 fn october_is_as_the_rules_print_it() {
     let text = "MONTH PERMIT RIVER STORE WHY AT\n\
         0 11 1500 0 0 0\n0 12 1201 0 0 0\n0 13 701 0 2 300\n0 14 0 600 0 0\n0 15 0 0 1 100\n\
-        0 end 0 50 1051 403\n";
+        0 end 0 75 1026 403\n";
     assert_eq!(expected()[0], text);
 }
 

@@ -1,2 +1,3 @@
+pub mod Surveyed
 pub mod Evaporating
 pub mod Rows

@@ -1,17 +1,26 @@
 -- Evaporation in the arrays' words (01, step 4).
-use mathlib.Core.Bool.{cond}
 use mathlib.Core.List.{List}
 use mathlib.Core.Path.{_≡_}
 use Prim.Native.Nat.{ℕ, _+_, _-_, _≤_, _<_}
-use lib.Dec.{leb}
 use lib.ListN.{length, getD}
 use Rattle.places.specs.Board.{boardLength, storagePlace, monthAt, storageAt}
+use Rattle.rules.specs.Basin.{Survey}
 use Rattle.rules.specs.Month.{evaporation}
 use Rattle.records.specs.Records.{contentAt, areaAt, reservoirCount, reservoirOf}
 
--- the area of pair k if its storage is not above x, or else what was found before
-abbrev pub areaBy : List ℕ → ℕ → ℕ → ℕ → ℕ → ℕ
-areaBy rs v x k found = cond (leb (contentAt rs v k) x) (areaAt rs v k) found
+-- pair k of the area-capacity table of reservoir v
+abbrev pub surveyIn : List ℕ → ℕ → ℕ → Survey
+surveyIn rs v k = record { content = contentAt rs v k; area = areaAt rs v k }
+
+-- a storage x from pair k up to the next, given their storages
+pub record OnLine (rs : List ℕ) (v k low high x : ℕ) : Type 0 where
+  pub exists : v < reservoirCount rs
+  pub has-next : k < 3
+  pub low-is : low ≡ contentAt rs v k
+  pub high-is : high ≡ contentAt rs v (k + 1)
+  pub reached : low ≤ x
+  pub not-next : x < high
+  pub in-word : high < 4294967296
 
 -- what reservoir v of storage x loses in month m
 abbrev pub lossIn : List ℕ → ℕ → ℕ → ℕ → ℕ

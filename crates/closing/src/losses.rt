@@ -1,37 +1,55 @@
 // Evaporation at the end of a month.
 ghost use mathlib.Core.Path.{_≡_};
-ghost use Prim.Native.Nat.{_≤_, _<_};
+ghost use Prim.Native.Nat.{_+_, _≤_, _<_};
 ghost use Rattle.records.specs.Records.{reservoirCount, reservoirOf};
-ghost use Rattle.rules.specs.Month.{areaAt};
-ghost use Rattle.closing.specs.Losses.{areaBy, lossIn, CanEvaporate, Lost};
-use numbers::bytes::le32;
+ghost use Rattle.rules.specs.Month.{towards, onLine, areaAt};
+ghost use Rattle.closing.specs.Losses.{surveyIn, OnLine, lossIn, CanEvaporate, Lost};
 use numbers::lesser;
 use numbers::wide16;
 use numbers::wide32;
 use places::board::storage_place;
+use records::reservoirs::area_at;
 use records::reservoirs::content_at;
 use records::reservoirs::depth_at;
 
-// The area of pair k if its storage is not above the storage, or else what was found before.
-fn area_by(reservoirs: &[u8], v: usize, storage: u64, k: usize, found: u64) -> u64
-    requires { ⌜ (v < reservoirCount (now reservoirs)) × (k < 4) × (found < 4294967296) ⌝ }
-    ensures { λ r. ⌜ (r ≡ areaBy (now (reservoirs .entry)) v storage k found) × (r < 4294967296) ⌝ }
+// From a towards b, n of d equal steps along.
+fn towards(a: u64, b: u64, n: u64, d: u64) -> u64
+    requires { ⌜ (a < 4294967296) × (b < 4294967296) × (n < d) × (d < 4294967296) ⌝ }
+    ensures { λ r. ⌜ (r ≡ towards a b n d) × (r < 4294967296) ⌝ }
 {
-    if wide32(content_at(reservoirs, v, k)) <= storage {
-        return wide32(le32(reservoirs, 68 * v + 16 + 8 * k));
+    if a <= b {
+        return a + (b - a) * n / d;
     }
-    found
+    a - (a - b) * n / d
 }
 
-// The area at a storage: that of the highest pair whose storage is not above it.
-fn area_at(reservoirs: &[u8], v: usize, storage: u64) -> u64
+// The area between pair k and the next, whose storages are `low` and `high`.
+fn on_line(reservoirs: &[u8], v: usize, k: usize, low: u64, high: u64, storage: u64) -> u64
+    requires { ⌜ OnLine (now reservoirs) v k low high storage ⌝ }
+    ensures { λ r. ⌜ (r ≡ onLine (surveyIn (now (reservoirs .entry)) v k) (surveyIn (now (reservoirs .entry)) v (k + 1)) storage) × (r < 4294967296) ⌝ }
+{
+    let from = wide32(area_at(reservoirs, v, k));
+    let to = wide32(area_at(reservoirs, v, k + 1));
+    towards(from, to, storage - low, high - low)
+}
+
+// The area at a storage: on the line between two pairs, and from the last pair on the last area.
+fn lake_area(reservoirs: &[u8], v: usize, storage: u64) -> u64
     requires { ⌜ v < reservoirCount (now reservoirs) ⌝ }
     ensures { λ r. ⌜ (r ≡ areaAt (reservoirOf (now (reservoirs .entry)) v) storage) × (r < 4294967296) ⌝ }
 {
-    let first = area_by(reservoirs, v, storage, 0, 0);
-    let second = area_by(reservoirs, v, storage, 1, first);
-    let third = area_by(reservoirs, v, storage, 2, second);
-    area_by(reservoirs, v, storage, 3, third)
+    let mut low = wide32(content_at(reservoirs, v, 0));
+    if storage < low {
+        return 0;
+    }
+    for k in 0..3 {
+        let high = wide32(content_at(reservoirs, v, k + 1));
+        if storage < high {
+            return on_line(reservoirs, v, k, low, high, storage);
+        }
+        low = high;
+    }
+    wide32(area_at(reservoirs, v, 3))
 }
 
 // What reservoir v loses in month m, at most what it holds.
@@ -39,9 +57,12 @@ fn loss(reservoirs: &[u8], m: usize, v: usize, storage: u64) -> u64
     requires { ⌜ (v < reservoirCount (now reservoirs)) × (m < 12) ⌝ }
     ensures { λ r. ⌜ (r ≡ lossIn (now (reservoirs .entry)) m v storage) × (r ≤ storage) ⌝ }
 {
-    let area = area_at(reservoirs, v, storage);
     let depth = wide16(depth_at(reservoirs, v, m));
-    lesser(storage, area * depth)
+    // Most lakes have months without evaporation, and need no area then.
+    if depth == 0 {
+        return 0;
+    }
+    lesser(storage, lake_area(reservoirs, v, storage) * depth)
 }
 
 // Step 4: each reservoir loses its evaporation, which the report tells from the place `at` on.

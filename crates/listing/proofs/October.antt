@@ -16,7 +16,7 @@ use Rattle.rules.specs.Path.{carriesOn, rowBelow, path, untilRow}
 use Rattle.rules.specs.River.{diverted, reserved, released, returned, along, lowest, lesser}
 use Rattle.rules.specs.Returns.{consumption, returning, sharesFrom, shares, partsAt, partsOf, lagged, returnNow, returnedAt}
 use Rattle.rules.specs.Turn.{scheduled, demand, anyOn, called, divertible, riverPart, withLevels, afterDiversion, riverStage, storagePart, storageStage, returnStage, shortage, reasonOf, keepIf, lowestOn, lowRows, numberAt, controlling, turn}
-use Rattle.rules.specs.Month.{gathered, openingLevels, opening, turns, afterTurns, consumedBy, returnedBy, returnsAt, areaFrom, areaAt, evaporation, evaporations, evaporated, nextMonth, month, reasonNumber, grantAt}
+use Rattle.rules.specs.Month.{gathered, openingLevels, opening, turns, afterTurns, consumedBy, returnedBy, returnsAt, towards, areaFrom, areaBy, areaAt, evaporation, evaporations, evaporated, nextMonth, month, reasonNumber, grantAt}
 use Rattle.rules.specs.Tally.{overLimit, overAnswer, freshCarried}
 use Rattle.numbers.specs.Bytes.{le32At}
 use Rattle.boards.specs.Board.{carriedOf, wordOf, boardParts, boardOf, storageSum, dueSum}
@@ -49,7 +49,7 @@ line permit river store why at = lineOf (decimalText 0 ∷ decimalText permit �
 abbrev october-named : ℕ → ℕ → ℕ → ℕ → ℕ → List ℕ
 october-named a b c d e =
     ((((line 11 1500 0 0 a ++ line 12 1201 0 0 b) ++ line 13 701 0 2 c) ++ line 14 0 600 0 d) ++ line 15 0 0 1 e)
-    ++ endLine 0 0 50 1051 403 ++ []
+    ++ endLine 0 0 75 1026 403 ++ []
 
 -- the stations that its rights may name, each one only
 abbrev OnlyThese : (ℕ → ℕ) → Type 0
@@ -65,7 +65,7 @@ record Computed : Type 0 where
   these-fit : Fit octoberNames
 
 computed : Computed
-unfolding sumOver sumTo tab _and_ has firstAt follow carriesOn rowBelow path untilRow diverted reserved released returned along lowest lesser consumption returning sharesFrom shares partsAt partsOf lagged returnNow returnedAt bit scheduled demand anyOn called divertible riverPart withLevels afterDiversion riverStage storagePart storageStage returnStage shortage reasonOf keepIf lowestOn lowRows numberAt controlling turn gathered openingLevels opening turns afterTurns consumedBy returnedBy returnsAt areaFrom areaAt evaporation evaporations evaporated nextMonth month reasonNumber overLimit overAnswer freshCarried carriedOf wordOf board.partAt boardBy boardParts boardOf storageSum dueSum grantNumber levelNumber report.partAt reportParts reportOf orElse unless freshBoard runOf dueAfter boardAfter le32At sheetOf partRefusal sheetStep stepOf nextStep stepsText begin monthsText monthText rightLines rightLine outflowIn evaporationIn
+unfolding sumOver sumTo tab _and_ has firstAt follow carriesOn rowBelow path untilRow diverted reserved released returned along lowest lesser consumption returning sharesFrom shares partsAt partsOf lagged returnNow returnedAt bit scheduled demand anyOn called divertible riverPart withLevels afterDiversion riverStage storagePart storageStage returnStage shortage reasonOf keepIf lowestOn lowRows numberAt controlling turn gathered openingLevels opening turns afterTurns consumedBy returnedBy returnsAt towards areaFrom areaBy areaAt evaporation evaporations evaporated nextMonth month reasonNumber overLimit overAnswer freshCarried carriedOf wordOf board.partAt boardBy boardParts boardOf storageSum dueSum grantNumber levelNumber report.partAt reportParts reportOf orElse unless freshBoard runOf dueAfter boardAfter le32At sheetOf partRefusal sheetStep stepOf nextStep stepsText begin monthsText monthText rightLines rightLine outflowIn evaporationIn
 computed = record {
   text = λ names. refl;
   only-these = λ names h. (h .0 0 (omega arith), h .0 1 (omega arith), h .0 2 (omega arith), h .0 3 (omega arith), h .0 4 (omega arith));

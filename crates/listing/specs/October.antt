@@ -36,9 +36,9 @@ fourthLine = 48 ∷ 32 ∷ 49 ∷ 52 ∷ 32 ∷ 48 ∷ 32 ∷ 54 ∷ 48 ∷ 48 �
 abbrev fifthLine : List ℕ
 fifthLine = 48 ∷ 32 ∷ 49 ∷ 53 ∷ 32 ∷ 48 ∷ 32 ∷ 48 ∷ 32 ∷ 49 ∷ 32 ∷ 49 ∷ 48 ∷ 48 ∷ 10 ∷ []
 
--- 0 end 0 50 1051 403
+-- 0 end 0 75 1026 403
 abbrev sixthLine : List ℕ
-sixthLine = 48 ∷ 32 ∷ 101 ∷ 110 ∷ 100 ∷ 32 ∷ 48 ∷ 32 ∷ 53 ∷ 48 ∷ 32 ∷ 49 ∷ 48 ∷ 53 ∷ 49 ∷ 32 ∷ 52 ∷ 48 ∷ 51 ∷ 10 ∷ []
+sixthLine = 48 ∷ 32 ∷ 101 ∷ 110 ∷ 100 ∷ 32 ∷ 48 ∷ 32 ∷ 55 ∷ 53 ∷ 32 ∷ 49 ∷ 48 ∷ 50 ∷ 54 ∷ 32 ∷ 52 ∷ 48 ∷ 51 ∷ 10 ∷ []
 
 abbrev pub sevenLines : List ℕ
 sevenLines = headLine ++ firstLine ++ secondLine ++ thirdLine ++ fourthLine ++ fifthLine ++ sixthLine

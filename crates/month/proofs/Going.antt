@@ -1,20 +1,19 @@
 -- Month after month of an accepted file: what one leaves is what the next asks for. Assumes nothing.
 use mathlib.Core.Path.{_≡_, sym, ap, _∙_, subst}
-use mathlib.Core.Bool.{Bool, true, false, cond}
-use mathlib.Core.List.{List, [], _∷_}
+use mathlib.Core.Bool.{true}
+use mathlib.Core.List.{List}
 use mathlib.Core.Option.{Option, none, some}
 use Prim.Native.Nat.{ℕ, _*_, _≤_, _<_}
 use native.Mathlib.Nat.{mul-le-mul}
 use native.Mathlib.Omega.{arith}
-use lib.Dec.{leb}
 use lib.ListN.{length, getD}
-use Rattle.general.specs.Tables.{All}
 use Rattle.general.proofs.Lists.{all-at-place}
 use Rattle.general.proofs.Tables.{tab-at}
 use Rattle.rules.specs.Accepted.{Accepted, GoodReservoir}
-use Rattle.rules.specs.Basin.{Basin, Reservoir, Survey, noReservoir, rows, reservoirAt}
-use Rattle.rules.specs.Month.{areaFrom, areaAt, evaporation, evaporations, month}
+use Rattle.rules.specs.Basin.{Basin, Reservoir, noReservoir, rows, reservoirAt}
+use Rattle.rules.specs.Month.{areaBy, areaAt, evaporation, evaporations, month}
 use Rattle.rules.specs.Answers.{Answer}
+use Rattle.rules.proofs.Areas.{area-within}
 use Rattle.rules.specs.Tally.{overLimit, overAnswer}
 use Rattle.boards.specs.Board.{possible}
 use Rattle.records.specs.Records.{bodies}
@@ -74,19 +73,10 @@ still-possible b acc runoff bd rp can o w = ap (λ (x : Outcome). possible b (x 
 
 -- ---- what evaporates is at most the largest area under the largest depth
 
-area-most : (ps : List Survey) (found x : ℕ) → found ≤ 1_000_000 → All (λ (p : Survey). p .area ≤ 1_000_000) ps → areaFrom found ps x ≤ 1_000_000
-unfolding areaFrom
-area-most [] found x h l = h
-area-most (p ∷ ps) found x h l = area-most ps (cond (leb (p .content) x) (p .area) found) x (go (leb (p .content) x)) (l .1)
-  where
-    go : (t : Bool) → cond t (p .area) found ≤ 1_000_000
-    go true = l .0
-    go false = h
-
 loss-most : (b : Basin) (v : Reservoir) (m x : ℕ) → GoodReservoir b v → evaporation m v x ≤ 1_000_000_000
 unfolding evaporation areaAt
 loss-most b v m x g =
-    let p : areaFrom 0 (v .surveys) x * getD (v .depths) m 0 ≤ 1_000_000 * 1000 = mul-le-mul (area-most (v .surveys) 0 x (omega arith) (g .areas-most)) (g .depths-most m) in
+    let p : areaBy (v .surveys) x * getD (v .depths) m 0 ≤ 1_000_000 * 1000 = mul-le-mul (area-within 1_000_000 x (v .surveys) (g .areas-most)) (g .depths-most m) in
     omega (arith, p)
 
 losses-most : (b : Basin) → Accepted b → (m : ℕ) (ss : List ℕ) (v : ℕ) → v < length (b .reservoirs) → getD (evaporations b m ss) v 0 ≤ 1_000_000_000

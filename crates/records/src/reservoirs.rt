@@ -1,7 +1,7 @@
 // The records of reservoirs.
 ghost use mathlib.Core.Path.{_≡_};
 ghost use Prim.Native.Nat.{_<_};
-ghost use Rattle.records.specs.Records.{reservoirCount, reservoirRecord, contentAt, depthAt};
+ghost use Rattle.records.specs.Records.{reservoirCount, reservoirRecord, contentAt, areaAt, depthAt};
 use numbers::bytes::le16;
 use numbers::bytes::le32;
 
@@ -30,6 +30,14 @@ pub fn content_at(reservoirs: &[u8], v: usize, k: usize) -> u32
     ensures { λ r. ⌜ r ≡ contentAt (now (reservoirs .entry)) v k ⌝ }
 {
     le32(reservoirs, 68 * v + 12 + 8 * k)
+}
+
+// The area of pair k of that table.
+pub fn area_at(reservoirs: &[u8], v: usize, k: usize) -> u32
+    requires { ⌜ (v < reservoirCount (now reservoirs)) × (k < 4) ⌝ }
+    ensures { λ r. ⌜ r ≡ areaAt (now (reservoirs .entry)) v k ⌝ }
+{
+    le32(reservoirs, 68 * v + 16 + 8 * k)
 }
 
 // The depth that evaporates in month m.

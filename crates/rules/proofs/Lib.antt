@@ -1,6 +1,7 @@
 pub mod Path
 pub mod River
 pub mod Splits
+pub mod Areas
 pub mod Stages
 pub mod Months
 pub mod Reservoirs

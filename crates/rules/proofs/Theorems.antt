@@ -4,10 +4,11 @@ use Rattle.rules.specs.Basin.{rows}
 use Rattle.rules.specs.Tally.{begun, afterCalls}
 use Rattle.rules.specs.Turn.{pathOf}
 use Rattle.rules.specs.River.{availableAt, lowest}
-use Rattle.rules.specs.Theorems.{Splitting, Paths, Fresh, Water, StartKept, Checkpoints, Unclipped, PendingOn, PendingEnds, PendingBegins, AlwaysPossible, Resumed, OctoberAccepted}
+use Rattle.rules.specs.Theorems.{Splitting, Paths, Areas, Fresh, Water, StartKept, Checkpoints, Unclipped, PendingOn, PendingEnds, PendingBegins, AlwaysPossible, Resumed, OctoberAccepted}
 use Rattle.rules.proofs.Path.{path-ends, path-once, path-rising}
 use Rattle.rules.proofs.River.{lesser-signed, lowest-least}
 use Rattle.rules.proofs.Splits.{shares-sum}
+use Rattle.rules.proofs.Areas.{area-facts}
 use Rattle.rules.proofs.Months.{month-ok}
 use Rattle.rules.proofs.Resumed.{resumes}
 use Rattle.rules.proofs.Pending.{pending-on, pending-ends, pending-begins}
@@ -20,6 +21,9 @@ splitting a ps h = shares-sum a ps h
 
 pub paths : Paths
 paths b c r h = record { ends = path-ends b c r h; once = path-once b c r h; rising = path-rising (b .stations) r h }
+
+pub areas : Areas
+areas v r = area-facts v r
 
 pub fresh : Fresh
 fresh b acc = fresh-facts b acc

@@ -58,6 +58,9 @@ pub record Basin : Type 0 where
 abbrev pub noStation : Station
 noStation = record { number = 0; order = 0 }
 
+abbrev pub noSurvey : Survey
+noSurvey = record { content = 0; area = 0 }
+
 abbrev pub noReservoir : Reservoir
 noReservoir = record { row = 0; capacity = 0; start = 0; surveys = []; depths = [] }
 
@@ -71,6 +74,9 @@ rows b = length (b .stations)
 
 abbrev pub stationAt : List Station → ℕ → Station
 stationAt st r = getD st r noStation
+
+abbrev pub surveyAt : Reservoir → ℕ → Survey
+surveyAt v k = getD (v .surveys) k noSurvey
 
 abbrev pub reservoirAt : Basin → ℕ → Reservoir
 reservoirAt b v = getD (b .reservoirs) v noReservoir

@@ -8,7 +8,7 @@ use Prim.Native.Nat.{ℕ, suc, _+_, _-_}
 use lib.ListN.{length, getD, replicate}
 use lib.IntN.{pos}
 use Rattle.general.specs.Tables.{tab}
-use Rattle.rules.specs.Basin.{Station, Reservoir, Kind, direct, project, Right, Basin}
+use Rattle.rules.specs.Basin.{Station, Survey, Reservoir, Kind, direct, project, Right, Basin}
 use Rattle.rules.specs.Path.{rowBelow, path}
 use Rattle.rules.specs.River.{Level}
 use Rattle.rules.specs.Returns.{consumedAt, shares}
@@ -40,8 +40,8 @@ pub record Marked : Type 0 where
       ∷ record { fromRiver = 0; fromStorage = 0; reason = calledOut; stations = 100 ∷ [] }
       ∷ []
   pub october-levels : (octoberRun .closed) .levels ≡ level 1899 1299 ∷ level 798 798 ∷ level 0 0 ∷ []
-  pub october-evaporation : octoberRun .evaporation ≡ 50 ∷ []
-  pub october-carried : afterOctober .carried ≡ record { m = 1; storages = 1051 ∷ []; marks = false ∷ []; taken = 0 ∷ 0 ∷ 701 ∷ 0 ∷ 0 ∷ [] }
+  pub october-evaporation : octoberRun .evaporation ≡ 75 ∷ []
+  pub october-carried : afterOctober .carried ≡ record { m = 1; storages = 1026 ∷ []; marks = false ∷ []; taken = 0 ∷ 0 ∷ 701 ∷ 0 ∷ 0 ∷ [] }
   -- of 805 that return at the last row, 242 are pending for November and 161 for December: 403 in all
   pub october-pending : tab 3 (λ w. tab 11 (λ k. pending october (afterOctober .start) (afterOctober .months) w (suc k))) ≡ replicate 11 0 ∷ replicate 11 0 ∷ (242 ∷ 161 ∷ replicate 9 0) ∷ []
   pub october-in-transit : inTransit october (afterOctober .start) (afterOctober .months) ≡ 403
@@ -54,7 +54,7 @@ pub record Marked : Type 0 where
   -- consumption of 1 at 33
   pub consumption-1 : consumedAt 1 33 ≡ 0
   -- areas
-  pub area-1999 : areaAt octoberReservoir 1999 ≡ 10
+  pub area-1999 : areaAt octoberReservoir 1999 ≡ 19
   pub area-2000 : areaAt octoberReservoir 2000 ≡ 20
   pub area-7500 : areaAt octoberReservoir 7500 ≡ 40
   -- months word 0 asks 0: of every kind, in every basin, month and state
@@ -71,15 +71,24 @@ branchedStations = record { number = 10; order = 2 } ∷ record { number = 20; o
 abbrev pub twoStations : List Station
 twoStations = record { number = 100; order = 1 } ∷ record { number = 200; order = 1 } ∷ []
 
--- a lake at the first row, with an area of 10 acres at any storage, and 5 hundredths of a foot evaporated in each month
+-- a lake at the first row, by its area-capacity table, and of one depth in all months
+abbrev pub surveyedLake : List Survey → ℕ → ℕ → ℕ → Reservoir
+surveyedLake table capacity start depth = record { row = 0; capacity = capacity; start = start; surveys = table; depths = replicate 12 depth }
+
+abbrev pub pair : ℕ → ℕ → Survey
+pair content area = record { content = content; area = area }
+
+-- one with an area of 10 acres at any storage
 abbrev pub lake : ℕ → ℕ → ℕ → Reservoir
-lake capacity start depth = record {
-  row = 0;
-  capacity = capacity;
-  start = start;
-  surveys = record { content = 0; area = 10 } ∷ record { content = 1; area = 10 } ∷ record { content = 2; area = 10 } ∷ record { content = 3; area = 10 } ∷ [];
-  depths = replicate 12 depth;
-}
+lake capacity start depth = surveyedLake (pair 0 10 ∷ pair 1 10 ∷ pair 2 10 ∷ pair 3 10 ∷ []) capacity start depth
+
+-- one that shrinks as it fills, surveyed to 9 units of the 1000 that it holds
+abbrev pub shrinkingLake : Reservoir
+shrinkingLake = surveyedLake (pair 0 20 ∷ pair 3 10 ∷ pair 5 10 ∷ pair 9 4 ∷ []) 1000 500 5
+
+-- one of the largest numbers that a table may have
+abbrev pub widestLake : Reservoir
+widestLake = surveyedLake (pair 0 1_000_000 ∷ pair 1 0 ∷ pair 2 1_000_000 ∷ pair 4_294_967_295 0 ∷ []) 2_000_000_000 2_000_000_000 0
 
 -- A senior at the second row lacks water. A project right at the first row, called out, lives from storage and returns all of it at once. A junior at the
 -- first row finds water in the river, and gets none, for it is called out.
@@ -103,6 +112,10 @@ drawnBasin = record {
 -- 10 acres lose 50 units a month; the lake holds 30.
 abbrev pub shallowBasin : Basin
 shallowBasin = record { stations = twoStations; reservoirs = lake 1000 30 5 ∷ []; patterns = []; rights = [] }
+
+-- Storage, 500, stands above the last pair.
+abbrev pub shrinkingBasin : Basin
+shrinkingBasin = record { stations = twoStations; reservoirs = shrinkingLake ∷ []; patterns = []; rights = [] }
 
 -- October fills the lake and a project right draws 30 from it; in November it may not be stored into again.
 abbrev pub filledBasin : Basin
@@ -154,6 +167,10 @@ pub record Told : Type 0 where
   pub draw-ends : grantsIn drawnBasin [] (sheet 0 0) ≡ record { fromRiver = 0; fromStorage = 100; reason = storageOut; stations = 100 ∷ [] } ∷ []
   -- evaporation ends with the storage
   pub evaporation-ends : (nextRun shallowBasin (fresh shallowBasin) (sheet 0 0)) .evaporation ≡ 30 ∷ []
+  -- areas that fall: floored is the distance from the lower pair's area; above the last pair the last area holds
+  pub falling-areas : tab 11 (areaAt shrinkingLake) ≡ 20 ∷ 17 ∷ 14 ∷ 10 ∷ 10 ∷ 10 ∷ 9 ∷ 7 ∷ 6 ∷ 4 ∷ 4 ∷ []
+  pub above-table : (nextRun shrinkingBasin (fresh shrinkingBasin) (sheet 0 0)) .evaporation ≡ 20 ∷ []
+  pub widest-table : areaAt widestLake 1 ∷ areaAt widestLake 2 ∷ areaAt widestLake 2_000_000_000 ∷ [] ≡ 0 ∷ 1_000_000 ∷ 534_339 ∷ []
   -- one fill a year: the mark stands after a release
   pub filled-once : grantsIn filledBasin (sheet 100 0 ∷ []) (sheet 100 0) ≡
       record { fromRiver = 0; fromStorage = 0; reason = met; stations = 0 ∷ [] } ∷ record { fromRiver = 30; fromStorage = 0; reason = met; stations = 0 ∷ [] } ∷ []

@@ -1,7 +1,7 @@
 -- One month (01, "The board and one month"), step by step.
 use mathlib.Core.Bool.{Bool, false, not, cond}
 use mathlib.Core.List.{List, [], _∷_, map}
-use Prim.Native.Nat.{ℕ, suc, _+_, _-_, _*_, min}
+use Prim.Native.Nat.{ℕ, suc, _+_, _-_, _*_, _/_, min}
 use lib.Dec.{leb, eqb}
 use lib.ListN.{length, getD, replicate}
 use lib.IntN.{ℤ, pos}
@@ -74,13 +74,26 @@ returnsAt b ts w s = sumOver (returnedBy b w s) ts
 
 -- ---- step 4: evaporation
 
--- the area at a storage x: that of the last pair of the area-capacity table that x reaches
-unfoldable pub areaFrom : ℕ → List Survey → ℕ → ℕ
-areaFrom found [] x = found
-areaFrom found (p ∷ ps) x = areaFrom (cond (leb (p .content) x) (p .area) found) ps x
+-- from a towards b, n of d equal steps along; the distance from a is floored, be b the larger or the smaller
+unfoldable pub towards : ℕ → ℕ → ℕ → ℕ → ℕ
+towards a b n d = cond (leb a b) (a + (b - a) * n / d) (a - (a - b) * n / d)
+
+-- the area at a storage x between two pairs of the area-capacity table, p the lower: on the straight line from p's area to q's
+abbrev pub onLine : Survey → Survey → ℕ → ℕ
+onLine p q x = towards (p .area) (q .area) (x - p .content) (q .content - p .content)
+
+-- the area at a storage x that reaches p, the pairs above p being qs; from the last pair on it stays
+unfoldable pub areaFrom : Survey → List Survey → ℕ → ℕ
+areaFrom p [] x = p .area
+areaFrom p (q ∷ qs) x = cond (leb (q .content) x) (areaFrom q qs x) (onLine p q x)
+
+-- A storage that reaches no pair has no area. An accepted file has none such: its tables begin at 0.
+unfoldable pub areaBy : List Survey → ℕ → ℕ
+areaBy [] x = 0
+areaBy (p ∷ ps) x = cond (leb (p .content) x) (areaFrom p ps x) 0
 
 unfoldable pub areaAt : Reservoir → ℕ → ℕ
-areaAt v x = areaFrom 0 (v .surveys) x
+areaAt v x = areaBy (v .surveys) x
 
 -- what month m takes off that area, as far as there is water
 unfoldable pub evaporation : ℕ → Reservoir → ℕ → ℕ

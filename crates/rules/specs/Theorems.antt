@@ -1,19 +1,19 @@
 -- What is proved of the rules, each statement on its own. The proofs stand in proofs/Theorems.antt under the same names, in small letters.
 use mathlib.Core.Path.{_≡_}
 use mathlib.Core.Bool.{false}
-use mathlib.Core.List.{List, [], _∷_, _++_}
-use Prim.Native.Nat.{ℕ, suc, _+_, _-_, _*_, _≤_, _<_}
+use mathlib.Core.List.{List, [], _∷_, _++_, map}
+use Prim.Native.Nat.{ℕ, suc, _+_, _-_, _*_, _≤_, _<_, min, max}
 use lib.ListN.{length, getD}
 use lib.IntN.{pos}
 use Rattle.general.specs.Sums.{sumOver, sum}
 use Rattle.general.specs.Tables.{tab, Rising}
 use Rattle.general.specs.Tests.{has}
-use Rattle.rules.specs.Basin.{Reservoir, Right, Basin, rows, reservoirAt, rightAt}
+use Rattle.rules.specs.Basin.{Survey, Reservoir, Right, Basin, rows, surveyAt, reservoirAt, rightAt}
 use Rattle.rules.specs.Path.{path, untilRow, lastRow}
 use Rattle.rules.specs.River.{availableAt, lower, lowest, lesser}
 use Rattle.rules.specs.Returns.{shares}
 use Rattle.rules.specs.Turn.{State, pathOf}
-use Rattle.rules.specs.Month.{returnsAt, MonthRun, month}
+use Rattle.rules.specs.Month.{returnsAt, onLine, areaAt, MonthRun, month}
 use Rattle.rules.specs.Tally.{Call, Start, freshStart, Tally, begun, standing, afterCalls, pending}
 use Rattle.rules.specs.Water.{startingStorage, startingDues, Checkpoint, MonthSound, WaterKept}
 use Rattle.rules.specs.Accepted.{Connected, Accepted}
@@ -34,6 +34,27 @@ pub record PathFacts (b : Basin) (r : ℕ) : Type 0 where
 
 abbrev pub Paths : Type 0
 Paths = (b : Basin) → Connected b → (r : ℕ) → r < rows b → PathFacts b r
+
+-- ---- the area of a lake, by any area-capacity table whose storages rise
+
+-- from pair k on, but not yet at the next
+pub record Past (v : Reservoir) (k x : ℕ) : Type 0 where
+  pub has-next : suc k < length (v .surveys)
+  pub reached : (surveyAt v k) .content ≤ x
+  pub not-next : x < (surveyAt v (suc k)) .content
+
+pub record AreaFacts (v : Reservoir) : Type 0 where
+  -- at a pair it is the pair's area
+  pub at-pair : (k : ℕ) → k < length (v .surveys) → areaAt v ((surveyAt v k) .content) ≡ (surveyAt v k) .area
+  -- past a pair it is on the line to the next, and between their areas, be the next the larger or the smaller
+  pub on-line : (k x : ℕ) → Past v k x → areaAt v x ≡ onLine (surveyAt v k) (surveyAt v (suc k)) x
+  pub not-below : (k x : ℕ) → Past v k x → min ((surveyAt v k) .area) ((surveyAt v (suc k)) .area) ≤ areaAt v x
+  pub not-above : (k x : ℕ) → Past v k x → areaAt v x ≤ max ((surveyAt v k) .area) ((surveyAt v (suc k)) .area)
+  -- from the last pair on it stays
+  pub stays : (k x : ℕ) → suc k ≡ length (v .surveys) → (surveyAt v k) .content ≤ x → areaAt v x ≡ (surveyAt v k) .area
+
+abbrev pub Areas : Type 0
+Areas = (v : Reservoir) → Rising (map (λ (p : Survey). p .content) (v .surveys)) → AreaFacts v
 
 -- ---- what a list of calls may start from: what is asked of a possible board (01, "The board and one month")
 

@@ -138,8 +138,9 @@ slips! {
     // Steps 4 and 5, the report.
     EvaporationNotCapped: "evaporation may be more than is stored",
     EvaporationFromOldStorage: "evaporation is reckoned from the storage before step 3",
-    AreaBelowPair: "storage equal to a pair does not reach it",
-    AreaNearestAbove: "area is that of the next pair above",
+    AreaInSteps: "area is the lower pair's up to the next pair",
+    AreaFlooredFromAbove: "a falling area is floored from the upper pair",
+    AreaCarriedOn: "the last line is carried on above the last pair",
     DepthOfNextMonth: "the depth of the next month is used",
     MonthTwelve: "m goes on from 11 to 12",
     FlowsThenAvailable: "the report holds all flows, then all available flows",

@@ -49,19 +49,30 @@ pub fn consumption<T: Telling>(telling: &T, grant: i64, efficiency: u8) -> i64 {
     }
 }
 
-/// The area of a lake: that of the last pair of its table that the storage reaches.
+/// The area of a lake. Between two pairs of its table it is on the straight line from
+/// the lower pair's area: plus or minus, towards the upper area, the difference of
+/// areas x the storage above the lower pair / the difference of storages, rounded
+/// down. At and above the last pair it is the last area (02, No. 1).
 pub fn area<T: Telling>(telling: &T, area_capacity: &[Pair; 4], storage: i64) -> i64 {
-    let not_above = |pair: &&Pair| {
-        if telling.slips(Slip::AreaBelowPair) && pair.storage > 0 {
-            (pair.storage as i64) < storage
-        } else {
-            pair.storage as i64 <= storage
+    let reached = area_capacity.iter().filter(|pair| pair.storage as i64 <= storage).count();
+    let mut low = reached.max(1) - 1; // the first storage is 0
+    if low == 3 {
+        if !telling.slips(Slip::AreaCarriedOn) {
+            return area_capacity[3].area as i64;
         }
-    };
-    let reached = area_capacity.iter().filter(not_above).count();
-    let mut pair = reached.max(1) - 1; // the first storage is 0
-    if telling.slips(Slip::AreaNearestAbove) {
-        pair = (pair + 1).min(3);
+        low = 2;
     }
-    area_capacity[pair].area as i64
+    let (lower, upper) = (area_capacity[low], area_capacity[low + 1]);
+    if telling.slips(Slip::AreaInSteps) {
+        return lower.area as i64;
+    }
+    let span = (upper.storage - lower.storage) as i64;
+    let above = storage - lower.storage as i64;
+    let apart = upper.area as i64 - lower.area as i64;
+    let part = if telling.slips(Slip::AreaFlooredFromAbove) && apart < 0 {
+        apart.abs() - apart.abs() * (span - above) / span
+    } else {
+        apart.abs() * above / span
+    };
+    lower.area as i64 + apart.signum() * part
 }

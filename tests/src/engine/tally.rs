@@ -13,12 +13,14 @@ use super::records::*;
 use super::Answer;
 
 mod accounts;
+mod lakes;
 mod paths;
 mod refusals;
 mod river;
 mod shares;
 #[cfg(test)]
 mod tests;
+pub use lakes::area;
 pub use paths::{path, row_below};
 use refusals::{decode, refused};
 use river::River;
@@ -244,12 +246,7 @@ impl Tally {
         let mut evaporation = Vec::new();
         for (lake, reservoir) in basin.reservoirs.iter().enumerate() {
             let storage = self.storages[lake];
-            let mut area = 0;
-            for pair in reservoir.area_capacity {
-                if pair.storage as i128 <= storage {
-                    area = pair.area as i128;
-                }
-            }
+            let area = area(&reservoir.area_capacity, storage);
             let loss = (area * reservoir.depths[self.m] as i128).min(storage);
             self.storages[lake] -= loss;
             evaporation.push(loss);

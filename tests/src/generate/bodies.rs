@@ -86,6 +86,20 @@ fn table_storages(rng: &mut Rng, start: u32, capacity: u32) -> [u32; 4] {
     std::array::from_fn(|_| rising.next().unwrap())
 }
 
+/// Areas of 0 and 1,000,000 alone, storages of any size up to the largest number; a depth
+/// that leaves water in the lake.
+pub fn extreme_table(rng: &mut Rng, lake: &mut Reservoir) {
+    let mut storages = BTreeSet::from([0]);
+    while storages.len() < 4 {
+        let most = *rng.pick(&[lake.start.max(3), lake.capacity.max(3), u32::MAX]);
+        storages.insert(if rng.chance(50) { most } else { rng.between(1, most as u64) as u32 });
+    }
+    for (pair, storage) in lake.area_capacity.iter_mut().zip(storages) {
+        *pair = Pair { storage, area: *rng.pick(&[0, 1_000_000]) };
+    }
+    lake.depths = [rng.between(0, 2) as u16; MONTHS];
+}
+
 /// Twelve percents that sum to 100, spread over few months or many.
 fn pattern(rng: &mut Rng) -> Pattern {
     let mut percents = [0; MONTHS];
