@@ -1,30 +1,33 @@
 -- What an accepted file gives to the rules. Assumes nothing.
-use mathlib.Core.Path.{_≡_, refl, sym, ap, _∙_}
+use mathlib.Core.Path.{_≡_, refl, sym, ap, _∙_, subst}
 use mathlib.Core.Logic.{_⊎_, inl, inr}
 use mathlib.Core.Bool.{Bool, true, false, cond}
-use mathlib.Core.List.{List, []}
-use Prim.Native.Nat.{ℕ, suc, _≤_, _<_}
+use mathlib.Core.List.{List, [], map}
+use Prim.Native.Nat.{ℕ, suc, _+_, _≤_, _<_}
 use native.Mathlib.Omega.{arith}
 use lib.Dec.{eqb}
 use lib.ListN.{length, getD}
 use Rattle.general.specs.Sums.{sum, sumTo}
+use Rattle.general.specs.Tables.{tab, Rising}
 use Rattle.general.specs.Tests.{_and_, has, isSome}
 use Rattle.general.proofs.Tests.{by-eqb, eqb-other, both-of, between-of, eq-of, le-of, lt-of}
 use Rattle.general.proofs.Search.{no-fault, some-of, all-at}
 use Rattle.general.proofs.Tables.{tab-length, sum-tab}
 use Rattle.general.proofs.Entries.{all-tab, tab-most, tab-none, map-tab}
-use Rattle.rules.specs.Basin.{Survey, Reservoir, Point, Right, Basin, noReservoir}
+use Rattle.rules.specs.Basin.{Survey, Reservoir, Point, Right, Basin, noReservoir, reservoirAt}
 use Rattle.rules.specs.Path.{rowBelow, path}
 use Rattle.rules.specs.Accepted.{Connected, GoodReservoir, ReservoirOk, Unreturned, Returned, ReturnsOk, GoodRight, Accepted as Acceptable}
+use Rattle.rules.specs.Theorems.{AreaFacts}
+use Rattle.rules.proofs.Theorems.{areas}
 use Rattle.rules.specs.declared.Verdict.the-variants.{Accepted, Layout}
 use Rattle.records.specs.declared.rights.Kind.{Kind}
 use Rattle.records.specs.declared.rights.Kind.the-variants.{Direct, Project, Instream, Storage}
 use Rattle.records.specs.declared.rights.RightRecord.{RightRecord}
 use Rattle.sections.specs.File.{layoutOk, sectionOf}
-use Rattle.records.specs.Records.{rowsOf, stationsOf, reservoirCount, reservoirRecord, depthAt, reservoirOf, reservoirsOf, patternCount, patternOf, percentAt, patternsOf, rightCount, rightRecord, amountAt, returnRow, returnPercent, kindOf, rightOf, rightsOf, bodies, basinOf}
-use Rattle.filerules.specs.FileRules.{wayDown, stationOk, areasOk, depthsOk, surveysOk, reservoirPlain, reservoirOk, patternOk, limitOk, headingOk, belowReservoir, atReservoir, sourceOk, pointOk, eachPointOk, pointsOk, diversionOk, undivertedOk, returnsOk, amountsOk, rightOk}
+use Rattle.records.specs.Records.{rowsOf, stationsOf, reservoirCount, reservoirRecord, contentAt, depthAt, reservoirOf, reservoirsOf, patternCount, patternOf, percentAt, patternsOf, rightCount, rightRecord, amountAt, returnRow, returnPercent, kindOf, rightOf, rightsOf, bodies, basinOf}
+use Rattle.filerules.specs.FileRules.{wayDown, stationOk, contentsRise, areasOk, depthsOk, surveysOk, reservoirPlain, reservoirOk, patternOk, limitOk, headingOk, belowReservoir, atReservoir, sourceOk, pointOk, eachPointOk, pointsOk, diversionOk, undivertedOk, returnsOk, amountsOk, rightOk}
 use Rattle.filecheck.specs.Check.{bodiesVerdict, checkOf}
-use Rattle.filecheck.specs.Theorems.{AcceptedFacts}
+use Rattle.filecheck.specs.Theorems.{AcceptedFacts, LakeAreas}
 use Rattle.sections.proofs.Parts.{laid}
 use Rattle.records.proofs.Counted.{rows-counted, reservoirs-counted, patterns-counted, rights-counted}
 use Rattle.records.proofs.Decoded.{reservoirs-are, reservoir-is, patterns-are, pattern-is, rights-are}
@@ -76,6 +79,19 @@ module _ (st rs ps s : List ℕ) (k : Clear st rs ps s) where
     some-row = rw (rows-are st) h;
     has-below = λ r l. let n = rows-are st in some-of (rowBelow (stationsOf st) r) (way-of st r (omega arith) (k .stations r (omega arith)));
   }
+
+  -- the storages of an area-capacity table rise
+  rising-of : (v : ℕ) → reservoirOk st rs v ≡ true → Rising (map (λ (p : Survey). p .content) ((reservoirOf rs v) .surveys))
+  unfolding reservoirOk surveysOk contentsRise reservoirOf tab
+  rising-of v e =
+      let c = both-of (both-of (both-of (both-of e .0) .1) .0) .1 in
+      let up : (j : ℕ) → j < 3 → contentAt rs v j < contentAt rs v (j + 1) = λ j l. lt-of (all-at 3 _ c j l) in
+      (up 0 (omega arith), (up 1 (omega arith), (up 2 (omega arith), tt)))
+
+  lake-areas-of : (v : ℕ) → v < length (reservoirsOf rs) → AreaFacts (reservoirAt basin v)
+  lake-areas-of v h =
+      let l : v < reservoirCount rs = omega (arith, h, reservoirs-are rs) in
+      subst AreaFacts (sym (reservoir-is rs v l)) (areas (reservoirOf rs v) (rising-of v (k .reservoirs v l)))
 
   plain-of : (v : ℕ) → reservoirOk st rs v ≡ true → (reservoirPlain st rs v ≡ true) × (areasOk rs v ≡ true) × (depthsOk rs v ≡ true)
   unfolding reservoirOk surveysOk
@@ -232,14 +248,21 @@ module _ (st rs ps s : List ℕ) (k : Clear st rs ps s) where
       rights-good = all-tab (GoodRight basin) (rightCount s) (rightOf s) (λ i h. good-right i (k .rights i h));
     }
 
+clear-of : (f : List ℕ) → checkOf f ≡ Accepted → Clear (sectionOf f 0) (sectionOf f 1) (sectionOf f 2) (sectionOf f 3)
+clear-of f e = bodies-clear (sectionOf f 0) (sectionOf f 1) (sectionOf f 2) (sectionOf f 3) (sym (check-goes-on f (layout-clear f e)) ∙ e)
+
 pub accepted-facts : AcceptedFacts
 unfolding basinOf bodies
 accepted-facts f e =
     let l = layout-clear f e in
     let d = laid f l in
     acceptable (sectionOf f 0) (sectionOf f 1) (sectionOf f 2) (sectionOf f 3)
-    (bodies-clear (sectionOf f 0) (sectionOf f 1) (sectionOf f 2) (sectionOf f 3) (sym (check-goes-on f l) ∙ e))
+    (clear-of f e)
     (rw (rows-counted f l) (d .stations))
     (rw (reservoirs-counted f l) (d .reservoirs))
     (rw (patterns-counted f l) (d .patterns))
     (rw (rights-counted f l) (d .rights))
+
+pub lake-areas : LakeAreas
+unfolding basinOf bodies
+lake-areas f e v h = lake-areas-of (sectionOf f 0) (sectionOf f 1) (sectionOf f 2) (sectionOf f 3) (clear-of f e) v h

@@ -1,6 +1,5 @@
 -- Laws of a lake's area. Assumes nothing.
 use mathlib.Core.Path.{_≡_, refl, sym, ap, _∙_}
-use mathlib.Core.Bool.{Bool, cond}
 use mathlib.Core.List.{List, [], _∷_, map}
 use Prim.Native.Nat.{ℕ, zero, suc, _+_, _-_, _*_, _/_, _≤_, _<_, min, max}
 use native.Mathlib.Nat.{mul-comm, mul-zero, zero-div, mul-le-mul-left, div-le-of-le-mul}
@@ -18,11 +17,11 @@ use Rattle.rules.specs.Theorems.{Past, AreaFacts}
 module _ (a b n d : ℕ) where
   pub towards-up : a ≤ b → towards a b n d ≡ a + (b - a) * n / d
   unfolding towards
-  towards-up h = ap (λ (t : Bool). cond t (a + (b - a) * n / d) (a - (a - b) * n / d)) (le-leb a b h)
+  towards-up h = rw (le-leb a b h)
 
   pub towards-down : b < a → towards a b n d ≡ a - (a - b) * n / d
   unfolding towards
-  towards-down h = ap (λ (t : Bool). cond t (a + (b - a) * n / d) (a - (a - b) * n / d)) (lt-leb a b h)
+  towards-down h = rw (lt-leb a b h)
 
 -- a part of the way is at most the way
 pub part-le : (w n d : ℕ) → n ≤ d → w * n / d ≤ w
@@ -52,20 +51,20 @@ module _ (x : ℕ) where
   -- short of the next pair, and from it on
   pub before-next : (p q : Survey) (qs : List Survey) → x < q .content → areaFrom p (q ∷ qs) x ≡ onLine p q x
   unfolding areaFrom
-  before-next p q qs h = ap (λ (t : Bool). cond t (areaFrom q qs x) (onLine p q x)) (lt-leb (q .content) x h)
+  before-next p q qs h = rw (lt-leb (q .content) x h)
 
   pub from-next : (p q : Survey) (qs : List Survey) → q .content ≤ x → areaFrom p (q ∷ qs) x ≡ areaFrom q qs x
   unfolding areaFrom
-  from-next p q qs h = ap (λ (t : Bool). cond t (areaFrom q qs x) (onLine p q x)) (le-leb (q .content) x h)
+  from-next p q qs h = rw (le-leb (q .content) x h)
 
   -- short of the first pair, and from it on
   pub before-first : (p : Survey) (ps : List Survey) → x < p .content → areaBy (p ∷ ps) x ≡ 0
   unfolding areaBy
-  before-first p ps h = ap (λ (t : Bool). cond t (areaFrom p ps x) 0) (lt-leb (p .content) x h)
+  before-first p ps h = rw (lt-leb (p .content) x h)
 
   pub from-first : (p : Survey) (ps : List Survey) → p .content ≤ x → areaBy (p ∷ ps) x ≡ areaFrom p ps x
   unfolding areaBy
-  from-first p ps h = ap (λ (t : Bool). cond t (areaFrom p ps x) 0) (le-leb (p .content) x h)
+  from-first p ps h = rw (le-leb (p .content) x h)
 
 -- ---- no area is above the table's largest
 

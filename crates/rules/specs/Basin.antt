@@ -1,6 +1,6 @@
 -- A basin as plain records, once its file is decoded (01, "The basin file"). A unit is 1/100 acre-foot; month 0 is October.
--- Here and in all other files "01" is the rules document that this engine follows, cited by its sections, and "002" the reference manual of the program
--- WIRSOS, which 01 follows in turn and from which it departs in a few named places.
+-- Here and in all other files "01" is the rules document that this engine follows, cited by its sections, "02" the list of changes asked for since,
+-- cited by number, and "002" the reference manual of the program WIRSOS, which 01 follows in turn and from which it departs in a few named places.
 use mathlib.Core.List.{List, []}
 use Prim.Native.Nat.{ℕ}
 use lib.ListN.{length, getD}

@@ -72,7 +72,7 @@ returnedBy b w s t = returnedAt (patternOf b (t .right)) w s (partsOf ((t .right
 unfoldable pub returnsAt : Basin → List Turn → ℕ → ℕ → ℕ
 returnsAt b ts w s = sumOver (returnedBy b w s) ts
 
--- ---- step 4: evaporation
+-- ---- step 4: evaporation (areas as 02, No. 1)
 
 -- from a towards b, n of d equal steps along; the distance from a is floored, be b the larger or the smaller
 unfoldable pub towards : ℕ → ℕ → ℕ → ℕ → ℕ
