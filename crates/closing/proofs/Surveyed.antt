@@ -10,8 +10,8 @@ use Rattle.general.proofs.Tables.{tab-at, tab-length}
 use Rattle.rules.specs.Basin.{Survey, noSurvey}
 use Rattle.rules.specs.Month.{towards, onLine, areaFrom, areaAt, evaporation}
 use Rattle.rules.proofs.Areas.{before-next, from-next, before-first, from-first}
-use Rattle.records.specs.Records.{contentAt, depthAt, reservoirOf}
-use Rattle.closing.specs.Losses.{surveyIn, lossIn}
+use Rattle.records.specs.Records.{contentAt, depthAt, surveyOf, reservoirOf}
+use Rattle.closing.specs.Losses.{lossIn}
 
 -- the numbers of two pairs, as they were read
 pub line-of : {p q : Survey} {a b low high : ℕ} → a ≡ p .area → b ≡ q .area → (x : ℕ) → low ≡ p .content → high ≡ q .content → towards a b (x - low) (high - low) ≡ onLine p q x
@@ -19,7 +19,7 @@ line-of ea eb x el eh = λ i. towards (ea i) (eb i) (x - el i) (eh i - el i)
 
 module _ (rs : List ℕ) (v x : ℕ) where
   abbrev pair : ℕ → Survey
-  pair k = surveyIn rs v k
+  pair k = surveyOf rs v k
 
   abbrev pairs : List Survey
   pairs = tab 4 pair
@@ -45,13 +45,13 @@ module _ (rs : List ℕ) (v x : ℕ) where
 
   module _ (k : ℕ) (h : k < 3) {low : ℕ} (r : Reached k low) where
     pub ends-between : x < contentAt rs v (k + 1) → areaAt (reservoirOf rs v) x ≡ onLine (pair k) (pair (k + 1)) x
-    ends-between l = r .area-is ∙ ap (λ (l : List Survey). areaFrom (pair k) l x) (above k h) ∙ before-next x (pair k) (pair (k + 1)) _ l
+    ends-between u = r .area-is ∙ ap (λ (ps : List Survey). areaFrom (pair k) ps x) (above k h) ∙ before-next x (pair k) (pair (k + 1)) _ u
 
     pub reached-next : {high : ℕ} → high ≡ contentAt rs v (k + 1) → high ≤ x → Reached (k + 1) high
     reached-next e l = record {
       low-is = e;
       reached = l;
-      area-is = r .area-is ∙ ap (λ (l : List Survey). areaFrom (pair k) l x) (above k h) ∙ from-next x (pair k) (pair (k + 1)) _ (omega (arith, e, l));
+      area-is = r .area-is ∙ ap (λ (ps : List Survey). areaFrom (pair k) ps x) (above k h) ∙ from-next x (pair k) (pair (k + 1)) _ (omega (arith, e, l));
     }
 
   pub reached-last : {low : ℕ} → Reached 3 low → areaAt (reservoirOf rs v) x ≡ (pair 3) .area

@@ -4,13 +4,8 @@ use mathlib.Core.Path.{_≡_}
 use Prim.Native.Nat.{ℕ, _+_, _-_, _≤_, _<_}
 use lib.ListN.{length, getD}
 use Rattle.places.specs.Board.{boardLength, storagePlace, monthAt, storageAt}
-use Rattle.rules.specs.Basin.{Survey}
 use Rattle.rules.specs.Month.{evaporation}
-use Rattle.records.specs.Records.{contentAt, areaAt, reservoirCount, reservoirOf}
-
--- pair k of the area-capacity table of reservoir v
-abbrev pub surveyIn : List ℕ → ℕ → ℕ → Survey
-surveyIn rs v k = record { content = contentAt rs v k; area = areaAt rs v k }
+use Rattle.records.specs.Records.{contentAt, reservoirCount, reservoirOf}
 
 -- a storage x from pair k up to the next, given their storages
 pub record OnLine (rs : List ℕ) (v k low high x : ℕ) : Type 0 where

@@ -1,9 +1,9 @@
 // Evaporation at the end of a month.
 ghost use mathlib.Core.Path.{_≡_};
 ghost use Prim.Native.Nat.{_+_, _≤_, _<_};
-ghost use Rattle.records.specs.Records.{reservoirCount, reservoirOf};
+ghost use Rattle.records.specs.Records.{reservoirCount, surveyOf, reservoirOf};
 ghost use Rattle.rules.specs.Month.{towards, onLine, areaAt};
-ghost use Rattle.closing.specs.Losses.{surveyIn, OnLine, lossIn, CanEvaporate, Lost};
+ghost use Rattle.closing.specs.Losses.{OnLine, lossIn, CanEvaporate, Lost};
 use numbers::lesser;
 use numbers::wide16;
 use numbers::wide32;
@@ -26,7 +26,7 @@ fn towards(a: u64, b: u64, n: u64, d: u64) -> u64
 // The area between pair k and the next, whose storages are `low` and `high`.
 fn on_line(reservoirs: &[u8], v: usize, k: usize, low: u64, high: u64, storage: u64) -> u64
     requires { ⌜ OnLine (now reservoirs) v k low high storage ⌝ }
-    ensures { λ r. ⌜ (r ≡ onLine (surveyIn (now (reservoirs .entry)) v k) (surveyIn (now (reservoirs .entry)) v (k + 1)) storage) × (r < 4294967296) ⌝ }
+    ensures { λ r. ⌜ (r ≡ onLine (surveyOf (now (reservoirs .entry)) v k) (surveyOf (now (reservoirs .entry)) v (k + 1)) storage) × (r < 4294967296) ⌝ }
 {
     let from = wide32(area_at(reservoirs, v, k));
     let to = wide32(area_at(reservoirs, v, k + 1));

@@ -6,7 +6,7 @@ use Prim.Native.Nat.{ℕ, _+_, _-_, _*_, _/_}
 use lib.Dec.{eqb}
 use lib.ListN.{length, replicate}
 use Rattle.general.specs.Tables.{tab}
-use Rattle.rules.specs.Basin.{Station, Reservoir, direct, project, instream, storage, Right, Basin}
+use Rattle.rules.specs.Basin.{Station, Survey, Reservoir, direct, project, instream, storage, Right, Basin}
 use Rattle.rules.specs.Basin as rules
 use Rattle.records.specs.declared.stations.StationRecord.{StationRecord}
 use Rattle.records.specs.declared.reservoirs.ReservoirRecord.{ReservoirRecord}
@@ -47,12 +47,15 @@ areaAt s v k = le32At s (68 * v + 16 + 8 * k)
 unfoldable pub depthAt : List ℕ → ℕ → ℕ → ℕ
 depthAt s v m = le16At s (68 * v + 44 + 2 * m)
 
+abbrev pub surveyOf : List ℕ → ℕ → ℕ → Survey
+surveyOf s v k = record { content = contentAt s v k; area = areaAt s v k }
+
 unfoldable pub reservoirOf : List ℕ → ℕ → Reservoir
 reservoirOf s v = record {
   row = (reservoirRecord s v) .row;
   capacity = (reservoirRecord s v) .capacity;
   start = (reservoirRecord s v) .start;
-  surveys = tab 4 (λ k. record { content = contentAt s v k; area = areaAt s v k });
+  surveys = tab 4 (surveyOf s v);
   depths = tab 12 (depthAt s v);
 }
 
