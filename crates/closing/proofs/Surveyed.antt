@@ -1,17 +1,16 @@
--- The area at a storage, found pair after pair of the table, and what is lost.
+-- The area at a storage, found pair after pair of the table.
 use mathlib.Core.List.{List, _∷_}
-use mathlib.Core.Path.{_≡_, sym, ap, _∙_}
-use Prim.Native.Nat.{ℕ, suc, _+_, _-_, _*_, _≤_, _<_, min}
+use mathlib.Core.Path.{_≡_, ap, _∙_}
+use Prim.Native.Nat.{ℕ, suc, _+_, _-_, _≤_, _<_}
 use native.Mathlib.Omega.{arith}
 use lib.ListN.{drop}
 use Rattle.general.specs.Tables.{tab}
 use Rattle.general.proofs.Lists.{drop-at}
 use Rattle.general.proofs.Tables.{tab-at, tab-length}
 use Rattle.rules.specs.Basin.{Survey, noSurvey}
-use Rattle.rules.specs.Month.{towards, onLine, areaFrom, areaAt, evaporation}
+use Rattle.rules.specs.Month.{towards, onLine, areaFrom, areaAt}
 use Rattle.rules.proofs.Areas.{before-next, from-next, before-first, from-first}
-use Rattle.records.specs.Records.{contentAt, depthAt, surveyOf, reservoirOf}
-use Rattle.closing.specs.Losses.{lossIn}
+use Rattle.records.specs.Records.{contentAt, surveyOf, reservoirOf}
 
 -- the numbers of two pairs, as they were read
 pub line-of : {p q : Survey} {a b low high : ℕ} → a ≡ p .area → b ≡ q .area → (x : ℕ) → low ≡ p .content → high ≡ q .content → towards a b (x - low) (high - low) ≡ onLine p q x
@@ -57,10 +56,3 @@ module _ (rs : List ℕ) (v x : ℕ) where
   pub reached-last : {low : ℕ} → Reached 3 low → areaAt (reservoirOf rs v) x ≡ (pair 3) .area
   unfolding areaFrom tab
   reached-last r = r .area-is
-
--- ---- from area to loss
-
--- of the month's depth d
-pub loss-of : (rs : List ℕ) (m v x : ℕ) {d : ℕ} → m < 12 → d ≡ depthAt rs v m → lossIn rs m v x ≡ min x (areaAt (reservoirOf rs v) x * d)
-unfolding evaporation reservoirOf
-loss-of rs m v x h e = ap (λ (y : ℕ). min x (areaAt (reservoirOf rs v) x * y)) (tab-at (depthAt rs v) 12 m 0 h ∙ sym e)

@@ -57,12 +57,9 @@ fn loss(reservoirs: &[u8], m: usize, v: usize, storage: u64) -> u64
     requires { ⌜ (v < reservoirCount (now reservoirs)) × (m < 12) ⌝ }
     ensures { λ r. ⌜ (r ≡ lossIn (now (reservoirs .entry)) m v storage) × (r ≤ storage) ⌝ }
 {
+    let area = lake_area(reservoirs, v, storage);
     let depth = wide16(depth_at(reservoirs, v, m));
-    // Most lakes have months without evaporation, and need no area then.
-    if depth == 0 {
-        return 0;
-    }
-    lesser(storage, lake_area(reservoirs, v, storage) * depth)
+    lesser(storage, area * depth)
 }
 
 // Step 4: each reservoir loses its evaporation, which the report tells from the place `at` on.

@@ -53,9 +53,12 @@ pub fn consumption<T: Telling>(telling: &T, grant: i64, efficiency: u8) -> i64 {
 /// the lower pair's area: plus or minus, towards the upper area, the difference of
 /// areas x the storage above the lower pair / the difference of storages, rounded
 /// down. At and above the last pair it is the last area (02, No. 1).
+#[inline(always)]
 pub fn area<T: Telling>(telling: &T, area_capacity: &[Pair; 4], storage: i64) -> i64 {
-    let reached = area_capacity.iter().filter(|pair| pair.storage as i64 <= storage).count();
-    let mut low = reached.max(1) - 1; // the first storage is 0
+    let mut low = 0; // the first storage is 0
+    while low < 3 && area_capacity[low + 1].storage as i64 <= storage {
+        low += 1;
+    }
     if low == 3 {
         if !telling.slips(Slip::AreaCarriedOn) {
             return area_capacity[3].area as i64;
@@ -66,13 +69,14 @@ pub fn area<T: Telling>(telling: &T, area_capacity: &[Pair; 4], storage: i64) ->
     if telling.slips(Slip::AreaInSteps) {
         return lower.area as i64;
     }
-    let span = (upper.storage - lower.storage) as i64;
-    let above = storage - lower.storage as i64;
-    let apart = upper.area as i64 - lower.area as i64;
-    let part = if telling.slips(Slip::AreaFlooredFromAbove) && apart < 0 {
-        apart.abs() - apart.abs() * (span - above) / span
-    } else {
-        apart.abs() * above / span
-    };
-    lower.area as i64 + apart.signum() * part
+    let span = (upper.storage - lower.storage) as u64;
+    let above = (storage - lower.storage as i64) as u64;
+    let apart = upper.area.abs_diff(lower.area) as u64;
+    if lower.area <= upper.area {
+        return (lower.area as u64 + apart * above / span) as i64;
+    }
+    if telling.slips(Slip::AreaFlooredFromAbove) {
+        return (upper.area as u64 + apart * (span - above) / span) as i64;
+    }
+    (lower.area as u64 - apart * above / span) as i64
 }
