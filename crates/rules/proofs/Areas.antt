@@ -1,5 +1,5 @@
 -- Laws of a lake's area. Assumes nothing.
-use mathlib.Core.Path.{_≡_, refl, sym, ap, _∙_}
+use mathlib.Core.Path.{_≡_, refl, ap, _∙_}
 use mathlib.Core.List.{List, [], _∷_, map}
 use Prim.Native.Nat.{ℕ, zero, suc, _+_, _-_, _*_, _/_, _≤_, _<_, min, max}
 use native.Mathlib.Nat.{mul-comm, mul-zero, zero-div, mul-le-mul-left, div-le-of-le-mul}
@@ -35,12 +35,12 @@ towards-start a b d = by-place b a (towards a b 0 d ≡ a)
     (λ h. omega (arith, towards-down a b 0 d h, no-part (a - b) d))
     (λ h. omega (arith, towards-up a b 0 d h, no-part (b - a) d))
 
-pub towards-least : (a b n d : ℕ) → n ≤ d → min a b ≤ towards a b n d
+towards-least : (a b n d : ℕ) → n ≤ d → min a b ≤ towards a b n d
 towards-least a b n d k = by-place b a (min a b ≤ towards a b n d)
     (λ h. omega (arith, h, towards-down a b n d h, part-le (a - b) n d k))
     (λ h. omega (arith, h, towards-up a b n d h, part-le (b - a) n d k))
 
-pub towards-most : (a b n d : ℕ) → n ≤ d → towards a b n d ≤ max a b
+towards-most : (a b n d : ℕ) → n ≤ d → towards a b n d ≤ max a b
 towards-most a b n d k = by-place b a (towards a b n d ≤ max a b)
     (λ h. omega (arith, h, towards-down a b n d h, part-le (a - b) n d k))
     (λ h. omega (arith, h, towards-up a b n d h, part-le (b - a) n d k))
