@@ -49,10 +49,9 @@ pub fn consumption<T: Telling>(telling: &T, grant: i64, efficiency: u8) -> i64 {
     }
 }
 
-/// The area of a lake. Between two pairs of its table it is on the straight line from
-/// the lower pair's area: plus or minus, towards the upper area, the difference of
-/// areas x the storage above the lower pair / the difference of storages, rounded
-/// down. At and above the last pair it is the last area (02, No. 1).
+/// The area of a lake, read on the straight line between the two pairs around the
+/// storage (02, No. 1). Rounded down is how far it lies from the lower pair's area, be the
+/// upper one larger or smaller. A storage beyond the table has the last area.
 #[inline(always)]
 pub fn area<T: Telling>(telling: &T, area_capacity: &[Pair; 4], storage: i64) -> i64 {
     let mut low = 0; // the first storage is 0

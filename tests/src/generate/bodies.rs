@@ -86,8 +86,8 @@ fn table_storages(rng: &mut Rng, start: u32, capacity: u32) -> [u32; 4] {
     std::array::from_fn(|_| rising.next().unwrap())
 }
 
-/// Areas of 0 and 1,000,000 alone, storages of any size up to the largest number; a depth
-/// that leaves water in the lake.
+/// Areas of 0 and 1,000,000 alone, storages of any size up to the largest number. The depth
+/// is small, so that a large lake is not dry after a month.
 pub fn extreme_table(rng: &mut Rng, lake: &mut Reservoir) {
     let mut storages = BTreeSet::from([0]);
     while storages.len() < 4 {
