@@ -87,8 +87,8 @@ enum river_refusal {
 /* Why a right has what it has, and the station that is named. */
 enum river_reason {
     RIVER_NOT_SHORT = 0,  /* it has all it asked for; 0 */
-    RIVER_CALLED = 1,     /* a senior right at its row or downstream is short; the station of such a right */
-    RIVER_RIVER_LOW = 2,  /* the river had no more to give; where, at its row or downstream, the least was available */
+    RIVER_CALLED = 1,     /* a senior right is short: at the first such station from its own row downstream */
+    RIVER_RIVER_LOW = 2,  /* the river had no more to give: the first station, likewise, where the least was available */
     RIVER_STORAGE_LOW = 3 /* river and reservoir together gave a project right too little; the reservoir's station */
 };
 

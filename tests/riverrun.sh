@@ -20,4 +20,4 @@ trap 'kill $(jobs -p) 2>/dev/null || true; rm -rf "$work"' EXIT
 . "$parts/streams.sh"
 . "$parts/long.sh"
 
-echo "riverrun: $cases cases as wanted; $lines lines compared with the plain program's, $other_station of them with another station named"
+echo "riverrun: $cases cases as wanted; $lines lines compared with the plain program's"

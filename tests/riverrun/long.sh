@@ -1,17 +1,6 @@
 # Cases of riverrun.sh: files of months longer than a block of 64 KiB, against the plain program. Sourced.
 
 lines=0
-other_station=0
-
-# A listing with `any` for a station named under reason 1 or 2, of which the rules leave several to choose from; it must be a station of the basin.
-without_free_stations() {
-    local count
-    count=$(od -An -t u4 -j 4 -N 4 basin.bin)
-    od -An -v -t u4 -w8 -j 32 -N $((8 * count)) basin.bin >"$work/stations"
-    awk 'NR == FNR { station[$1] = 1; next }
-        $2 != "end" && ($5 == 1 || $5 == 2) && $6 in station { $6 = "any" }
-        { print }' "$work/stations" "$1"
-}
 
 # The plain program's listing of the files of the folder.
 plain_listing() {
@@ -21,14 +10,10 @@ plain_listing() {
 # Compares the run with it. Arguments: what is to be said on standard error; the last line, where the rules tell it.
 wants_the_plain_listing() {
     lines=$((lines + $(wc -l <plain)))
-    other_station=$((other_station + $(diff plain "$work/out" | grep -c '^>' || true)))
     if [ $# -gt 1 ]; then
         diff <(echo "$2") <(tail -n 1 "$work/out") >"$work/difference" || not_as_wanted "the last line"
     fi
-    without_free_stations plain >wanted
-    without_free_stations "$work/out" >found
-    mv found "$work/out"
-    judge 0 "$1" wanted
+    judge 0 "$1" plain
 }
 
 both() {

@@ -6,16 +6,12 @@ use crate::engine::{self, Answer};
 #[cfg(feature = "native")]
 use crate::ffi;
 
-/// Per right, the numbers of the stations that may be named.
-pub type Allowed = Vec<Vec<u32>>;
-
 pub struct Calls {
     /// Whose calls they are, for messages.
     pub by: &'static str,
     pub check: fn(&[u8]) -> Answer,
     pub fresh: fn(&[u8], &mut [u64]) -> Answer,
-    /// Also tells which stations may be named, where the engine does.
-    pub month: fn(&[u8], &[u32], &mut [u64], &mut [u64]) -> (Answer, Option<Allowed>),
+    pub month: fn(&[u8], &[u32], &mut [u64], &mut [u64]) -> Answer,
     pub stock: fn(&[u8], &[u64]) -> [u64; 4],
 }
 
@@ -24,10 +20,7 @@ pub const ENGINES: &[Calls] = &[
         by: "the plain engine",
         check: engine::check,
         fresh: engine::fresh,
-        month: |file, runoff, board, report| {
-            let (answer, allowed) = engine::month_allowed(file, runoff, board, report);
-            (answer, Some(allowed))
-        },
+        month: engine::month,
         stock: engine::stock,
     },
     #[cfg(feature = "native")]
@@ -35,7 +28,7 @@ pub const ENGINES: &[Calls] = &[
         by: "the static library",
         check: ffi::verdict,
         fresh: ffi::fresh,
-        month: |file, runoff, board, report| (ffi::month(file, runoff, board, report), None),
+        month: ffi::month,
         stock: ffi::stock,
     },
 ];

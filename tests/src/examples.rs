@@ -94,6 +94,23 @@ pub fn october() -> Basin {
 
 pub const OCTOBER_RUNOFF: [u32; 3] = [2000, 700, 300];
 
+/// Two tributaries, stations 10 and 20, that join at 30; below it 40. The direct rights
+/// stand at rows 2, 0, 3, 2 and 1, the instream right at row 0.
+pub fn tight_spots() -> Basin {
+    Basin {
+        stations: stations(&[(10, 2), (20, 3), (30, 2), (40, 1)]),
+        rights: vec![
+            direct(1, 18900101, 2, 10),
+            direct(2, 18910101, 0, 15),
+            direct(3, 18920101, 3, 5),
+            direct(4, 18930101, 2, 5),
+            direct(5, 18940101, 1, 5),
+            instream(6, 18950101, 0, 12),
+        ],
+        ..Basin::default()
+    }
+}
+
 /// A sheet of runoff numbers as `months.bin` holds it.
 pub fn months_bytes(numbers: &[u32]) -> Vec<u8> {
     numbers.iter().flat_map(|number| number.to_le_bytes()).collect()

@@ -4,7 +4,7 @@
 
 use crate::engine::board::{fresh, BOARD, DUES, MARKS, STORAGES};
 use crate::engine::check::{judge, Judged};
-use crate::engine::month::{month_on, NoWitness};
+use crate::engine::month::month_on;
 use crate::engine::network::Network;
 use crate::engine::records::u32_at;
 use crate::engine::report;
@@ -95,7 +95,7 @@ impl<'a> Run<'a> {
             *runoff = u32::from_le_bytes(*number);
         }
         let Run { basin, runoff, board, report } = self;
-        month_on(&Faithful, &mut NoWitness, basin, runoff, board, report)
+        month_on(&Faithful, basin, runoff, board, report)
     }
 
     fn print(&self, number: u64, text: &mut Vec<u8>) {

@@ -34,7 +34,7 @@ fn accepted(tally: &mut Tally) -> bool {
     tally.call(&[], 0) == (6, 0)
 }
 
-/// The lines of one month; only the named station may be any of several.
+/// The lines of one month.
 fn assert_month<'a>(
     lines: &mut impl Iterator<Item = &'a str>,
     number: usize,
@@ -46,10 +46,8 @@ fn assert_month<'a>(
     for (record, grant) in rights.iter().zip(&past.grants) {
         let (permit, why) = (Right::decode(record).permit, grant.reason.number());
         let (river, store) = (grant.from_river, grant.from_storage);
-        let (line, at) = lines.next().unwrap().rsplit_once(' ').unwrap();
-        assert_eq!(line, format!("{number} {permit} {river} {store} {why}"));
-        let at: u32 = at.parse().unwrap();
-        assert!(grant.stations.contains(&at) || (why == 0 && at == 0), "{line} {at}");
+        let line = format!("{number} {permit} {river} {store} {why} {}", grant.station);
+        assert_eq!(lines.next(), Some(&line[..]));
     }
     let outflow = past.flow.last().unwrap();
     let evaporation: i128 = past.evaporation.iter().sum();

@@ -1,7 +1,7 @@
 //! A run of months by hand: every call goes through an engine and through the
 //! tally with its assertions, and both must answer alike.
 
-use crate::calls::{Allowed, Calls};
+use crate::calls::Calls;
 use crate::engine::board::BOARD;
 use crate::engine::records::Basin;
 use crate::engine::report;
@@ -12,9 +12,6 @@ pub struct Run {
     file: Vec<u8>,
     pub board: Vec<u64>,
     report: Vec<u64>,
-    /// Per right, the numbers of the stations that may be named: as the tally has
-    /// them and, where it tells them, the engine.
-    pub allowed: Allowed,
     rights: usize,
     rows: usize,
     tally: Tally,
@@ -33,7 +30,6 @@ impl Run {
             file,
             board,
             report: vec![0; basin.report_length()],
-            allowed: Vec::new(),
             rights: basin.rights.len(),
             rows: basin.stations.len(),
         }
@@ -41,16 +37,12 @@ impl Run {
 
     /// Runs a month that is to be accepted; answers the number of rights short.
     pub fn month(&mut self, runoff: &[u32]) -> u64 {
-        let (answer, allowed) =
-            (self.calls.month)(&self.file, runoff, &mut self.board, &mut self.report);
+        let answer = (self.calls.month)(&self.file, runoff, &mut self.board, &mut self.report);
         assert_eq!(self.tally.call(runoff, self.report.len()), answer);
         assert_eq!(answer.0, 0);
         let grants = self.tally.months.last().unwrap().grants.iter();
-        self.allowed = grants.map(|grant| grant.stations.clone()).collect();
-        self.allowed.iter_mut().for_each(|stations| stations.sort());
-        if let Some(allowed) = allowed {
-            assert_eq!(allowed, self.allowed);
-        }
+        let stations: Vec<u64> = grants.map(|grant| grant.station as u64).collect();
+        assert_eq!(self.grants().iter().map(|grant| grant[3]).collect::<Vec<_>>(), stations);
         answer.1
     }
 
@@ -61,16 +53,6 @@ impl Run {
     /// Per right: from river, from storage, reason, station.
     pub fn grants(&self) -> Vec<[u64; 4]> {
         self.report[..report::flow(self.rights, 0)].as_chunks().0.to_vec()
-    }
-
-    /// A grant under reason 1 or 2, where several stations may be named: the named
-    /// one has to be among these, and these have to be all.
-    #[track_caller]
-    pub fn assert_free(&self, place: usize, river: u64, reason: u64, stations: &[u32]) {
-        let [from_river, from_storage, why, at] = self.grants()[place];
-        assert_eq!([from_river, from_storage, why], [river, 0, reason]);
-        assert!(stations.iter().any(|&number| number as u64 == at), "{at} of {stations:?}");
-        assert_eq!(self.allowed[place], stations);
     }
 
     pub fn flow(&self) -> Vec<u64> {

@@ -2,7 +2,7 @@
 //! which either may be missing, and the listing that the rules give them.
 
 use crate::engine::records::{Basin, MONTHS, MOST_RUNOFF};
-use crate::examples::{months_bytes, october, project, reservoir, stations};
+use crate::examples::{months_bytes, october, project, reservoir, stations, tight_spots};
 use crate::generate::{river, Rng, Size, Volume, Water};
 use crate::listing::listing;
 
@@ -75,6 +75,8 @@ pub fn runs(provo: [Vec<u8>; 2]) -> Vec<Run> {
     ] {
         all.push(years(name, seed, water));
     }
+    let wet_and_dry = months_bytes(&[20, 0, 0, 0, 0, 9, 0, 4]);
+    all.push(run("first_tight_spot", Some(tight_spots().encode()), Some(wet_and_dry)));
     all
 }
 

@@ -44,9 +44,9 @@ fn a_diversion_leaves_its_own_path_alone() {
         let mut run = Run::of(calls, &basin);
         // Rows: 0 -> 2, 1 -> 2, 2 -> 3. Flow 30, 20, 50, 100.
         assert_eq!(run.month(&[30, 20, 0, 50]), 1);
-        assert_eq!(run.grants()[..2], [[60, 0, 0, 0], [10, 0, 0, 0]]);
-        // The last could name row 0 (30) and row 3 (100 - 60 - 10 = 30), not row 2 (40).
-        run.assert_free(2, 30, 2, &[1, 4]);
+        // The last finds 30 at row 0 and at row 3 (100 - 60 - 10), the first of which is
+        // named, and 40 at row 2.
+        assert_eq!(run.grants(), [[60, 0, 0, 0], [10, 0, 0, 0], [30, 0, 2, 1]]);
         assert_eq!(run.flow(), [0, 10, 10, 0]);
     });
 }
@@ -100,7 +100,6 @@ fn a_called_project_right() {
         let mut run = Run::of(calls, &lake(69));
         assert_eq!(run.month(&[20, 10, 30]), 2);
         assert_eq!(run.grants()[1], [0, 69, 3, 1]);
-        assert_eq!(run.allowed[1], [1]);
     });
 }
 
@@ -142,8 +141,8 @@ fn short_instream_and_storage_rights_call() {
         assert_eq!(grants[0], [60, 0, 2, 3]);
         assert_eq!(grants[1], [0, 0, 1, 3]);
         assert_eq!(grants[2], [7, 0, 0, 0]);
-        // Called by 1 at row 2 and by 2 at row 1: either may be named.
-        run.assert_free(3, 0, 1, &[2, 3]);
+        // Called by 1 at row 2 and by 2 at row 1, which is the first on its way.
+        assert_eq!(grants[3], [0, 0, 1, 2]);
         assert_eq!((run.flow(), run.available()), (vec![10, 30, 60], vec![3, 30, 0]));
     });
 }

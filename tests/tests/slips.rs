@@ -5,11 +5,12 @@
 use river_tests::damage::*;
 use river_tests::engine::board::{self, BOARD};
 use river_tests::engine::check::judge;
-use river_tests::engine::month::{self, NoWitness};
+use river_tests::engine::month;
 use river_tests::engine::network::Network;
 use river_tests::engine::records::MOST_RUNOFF;
+use river_tests::engine::sections::find_sections;
 use river_tests::engine::slip::{Faithful, Slipped, Telling, ALL};
-use river_tests::engine::{check, fresh, month_allowed, report, stock};
+use river_tests::engine::{self, check, fresh, report, stock};
 use river_tests::generate::{any_river, largest, River, Rng};
 
 /// A difference between the right engine and a wrong one: where it was seen.
@@ -64,21 +65,14 @@ fn compare_month(
     let mut report = vec![55; report_length];
     let mut wrong_report = report.clone();
     let mut wrong_board = board.clone();
-    let told =
-        month::month(wrong, &mut NoWitness, file, runoff, &mut wrong_board, &mut wrong_report);
-    let (answer, allowed) = month_allowed(file, runoff, board, &mut report);
+    let told = month::month(wrong, file, runoff, &mut wrong_board, &mut wrong_report);
+    let answer = engine::month(file, runoff, board, &mut report);
     if told != answer {
         return Some("month: answer");
     }
-    // Any allowed station may be named: put the right engine's name there.
-    for (right, stations) in allowed.iter().enumerate() {
-        let named = report::station(right);
-        if stations.contains(&(wrong_report[named] as u32)) {
-            wrong_report[named] = report[named];
-        }
-    }
     if wrong_report != report {
-        let stations: Vec<_> = (0..allowed.len()).map(report::station).collect();
+        let rights = find_sections(&Faithful, file).map_or(0, |sections| sections.rights.len());
+        let stations: Vec<_> = (0..rights).map(report::station).collect();
         let only_named =
             (0..report_length).all(|at| wrong_report[at] == report[at] || stations.contains(&at));
         return Some(if only_named { "month: station named" } else { "month: report" });

@@ -4,8 +4,8 @@
 
 use river_tests::engine::board::*;
 use river_tests::engine::records::MOST_RUNOFF;
-use river_tests::engine::tally::{Reason, Tally};
-use river_tests::engine::{fresh, month_allowed, report};
+use river_tests::engine::tally::Tally;
+use river_tests::engine::{fresh, month, report};
 use river_tests::generate::{any_river, river_of, River, Rng, Size};
 
 #[derive(Default)]
@@ -15,8 +15,6 @@ struct Compared {
     marked: usize,
     /// Grants by reason.
     reasons: [usize; 4],
-    /// Those of them where more than one station may be named.
-    free: [usize; 4],
 }
 
 /// Runs a list of calls, some of them refused, through engine and tally.
@@ -42,7 +40,7 @@ fn compare_list(rng: &mut Rng, river: &River, calls: usize, compared: &mut Compa
         }
         let board_before = board.clone();
         let report_before = report.clone();
-        let (answer, allowed) = month_allowed(&river.file, &runoff, &mut board, &mut report);
+        let answer = month(&river.file, &runoff, &mut board, &mut report);
         assert_eq!(tally.call(&runoff, report.len()), answer);
         compared.calls += 1;
         if answer.0 != 0 {
@@ -52,7 +50,7 @@ fn compare_list(rng: &mut Rng, river: &River, calls: usize, compared: &mut Compa
             continue;
         }
         compare_board(&tally, &board);
-        compare_report(river, &tally, &report, &allowed, compared);
+        compare_report(river, &tally, &report, compared);
         assert!(report[length..].iter().all(|&number| number == 77));
         compared.marked += tally.marks.iter().filter(|&&mark| mark).count();
     }
@@ -76,29 +74,15 @@ fn compare_board(tally: &Tally, board: &[u64]) {
     assert_eq!(board, expected);
 }
 
-fn compare_report(
-    river: &River,
-    tally: &Tally,
-    report: &[u64],
-    allowed: &[Vec<u32>],
-    compared: &mut Compared,
-) {
+fn compare_report(river: &River, tally: &Tally, report: &[u64], compared: &mut Compared) {
     let past = tally.months.last().unwrap();
     for (place, grant) in past.grants.iter().enumerate() {
         let reason = grant.reason.number();
-        let named = report[report::station(place)];
         assert_eq!(report[report::from_river(place)], grant.from_river as u64);
         assert_eq!(report[report::from_storage(place)], grant.from_storage as u64);
         assert_eq!(report[report::reason(place)], reason);
-        let mut stations = grant.stations.clone();
-        stations.sort();
-        assert_eq!(stations, allowed[place]);
-        match grant.reason {
-            Reason::NotShort => assert_eq!(named, 0),
-            _ => assert!(stations.contains(&(named as u32))),
-        }
+        assert_eq!(report[report::station(place)], grant.station as u64);
         compared.reasons[reason as usize] += 1;
-        compared.free[reason as usize] += (stations.len() > 1) as usize;
     }
     let (rights, rows) = (past.grants.len(), past.flow.len());
     for row in 0..rows {
@@ -122,8 +106,8 @@ fn compare_many(seeds: std::ops::Range<u64>, size: Option<Size>, calls: usize) -
         compare_list(rng, &river, calls, &mut compared);
     }
     println!(
-        "{} calls, {} refused, {} marked lakes, grants by reason {:?}, free to name {:?}",
-        compared.calls, compared.refused, compared.marked, compared.reasons, compared.free
+        "{} calls, {} refused, {} marked lakes, grants by reason {:?}",
+        compared.calls, compared.refused, compared.marked, compared.reasons
     );
     compared
 }
@@ -134,8 +118,6 @@ fn small_rivers_over_years() {
     // The lists are worth something only if all of this happens in them.
     assert!(compared.refused > 1000);
     assert!(compared.marked > 1000);
-    assert!(compared.free[1] > 100 && compared.free[2] > 100);
-    assert_eq!((compared.free[0], compared.free[3]), (0, 0));
     assert!(compared.reasons.iter().all(|&times| times > 100));
 }
 

@@ -1,6 +1,6 @@
 -- What stands at each place of a report, and that a report is known by its parts. Assumes nothing.
-use mathlib.Core.Path.{_≡_, refl, sym, ap, _∙_, subst}
-use mathlib.Core.List.{List, _++_}
+use mathlib.Core.Path.{_≡_, refl, sym, ap, _∙_}
+use mathlib.Core.List.{List}
 use Prim.Native.Nat.{ℕ, _+_, _-_, _≤_, _<_}
 use native.Mathlib.Decide.{decLt}
 use native.Mathlib.Omega.{arith}
@@ -9,8 +9,8 @@ use lib.Seq.{drop-at, ext-getD, getD-drop}
 use lib.IntN.{ℤ, pos, negsuc, natAbs}
 use lib.Signed.{_≤ℤ_}
 use Rattle.general.specs.Tables.{tab}
-use Rattle.general.proofs.Tables.{tab-length, tab-at, tab-same}
-use Rattle.places.specs.Report.{fromRiverPlace, fromStoragePlace, reasonPlace, flowPlace, availablePlace, evaporationPlace, nameIn, Parts, partAt}
+use Rattle.general.proofs.Tables.{tab-length, tab-at}
+use Rattle.places.specs.Report.{fromRiverPlace, fromStoragePlace, reasonPlace, stationPlace, flowPlace, availablePlace, evaporationPlace, Parts, partAt}
 use Rattle.places.proofs.ReportPlaces.{by-places, line-part, row-part, evaporation-part}
 use Rattle.rules.specs.Basin.{Basin, rows}
 use Rattle.rules.specs.River.{levelAt}
@@ -23,25 +23,25 @@ pub own-number : (z : ℤ) → pos 0 ≤ℤ z → pos (natAbs z) ≡ z
 own-number (pos n) h = refl
 own-number (negsuc n) h = absurd (h .le)
 
-module _ (b : Basin) (h : MonthRun) (names : ℕ → ℕ) (old : List ℕ) where
+module _ (b : Basin) (h : MonthRun) (old : List ℕ) where
   abbrev n : ℕ
   n = length (b .rights)
 
   abbrev parts : Parts
-  parts = reportParts h names
+  parts = reportParts h
 
   abbrev told : ℕ → ℕ
   told = partAt n (rows b) parts
 
   abbrev made : List ℕ
-  made = reportOf b h names old
+  made = reportOf b h old
 
   at : (p : ℕ) → p < reportLength b → getD made p 0 ≡ told p
   unfolding reportOf
   at p l = List·getD-append (tab (reportLength b) told) (drop (reportLength b) old) 0 p (rw (tab-length told (reportLength b)) l) ∙ tab-at told (reportLength b) p 0 l
 
   -- the q-th number of right i, and of row w
-  grant-at : (i q : ℕ) → i < n → q < 4 → getD made (fromRiverPlace i + q) 0 ≡ grantNumber (grantAt (h .turns) i) (names i) q
+  grant-at : (i q : ℕ) → i < n → q < 4 → getD made (fromRiverPlace i + q) 0 ≡ grantNumber (grantAt (h .turns) i) q
   unfolding reportParts
   grant-at i q l m = at (fromRiverPlace i + q) (omega arith) ∙ line-part n (rows b) parts i q l m
 
@@ -61,9 +61,9 @@ module _ (b : Basin) (h : MonthRun) (names : ℕ → ℕ) (old : List ℕ) where
   unfolding grantNumber
   reason-place i l = grant-at i 2 l (omega arith)
 
-  pub name-place : (i : ℕ) → i < n → nameIn made i ≡ names i
+  pub station-place : (i : ℕ) → i < n → getD made (stationPlace i) 0 ≡ (grantAt (h .turns) i) .station
   unfolding grantNumber
-  name-place i l = grant-at i 3 l (omega arith)
+  station-place i l = grant-at i 3 l (omega arith)
 
   pub flow-place : (w : ℕ) → w < rows b → getD made (flowPlace n w) 0 ≡ natAbs ((levelAt ((h .closed) .levels) w) .flow)
   unfolding levelNumber
@@ -88,7 +88,7 @@ module _ (b : Basin) (h : MonthRun) (names : ℕ → ℕ) (old : List ℕ) where
     pub river : (i : ℕ) → i < n → getD l (fromRiverPlace i) 0 ≡ (grantAt (h .turns) i) .fromRiver
     pub storage : (i : ℕ) → i < n → getD l (fromStoragePlace i) 0 ≡ (grantAt (h .turns) i) .fromStorage
     pub reason : (i : ℕ) → i < n → getD l (reasonPlace i) 0 ≡ reasonNumber ((grantAt (h .turns) i) .reason)
-    pub name : (i : ℕ) → i < n → nameIn l i ≡ names i
+    pub station : (i : ℕ) → i < n → getD l (stationPlace i) 0 ≡ (grantAt (h .turns) i) .station
     pub flow : (w : ℕ) → w < rows b → getD l (flowPlace n w) 0 ≡ natAbs ((levelAt ((h .closed) .levels) w) .flow)
     pub available : (w : ℕ) → w < rows b → getD l (availablePlace n w) 0 ≡ natAbs ((levelAt ((h .closed) .levels) w) .available)
     pub losses : (v : ℕ) → v < length (b .reservoirs) → getD l (evaporationPlace n (rows b) v) 0 ≡ getD (h .evaporation) v 0
@@ -111,7 +111,7 @@ module _ (b : Basin) (h : MonthRun) (names : ℕ → ℕ) (old : List ℕ) where
           (λ i m. t .river i m ∙ sym (river-place i m))
           (λ i m. t .storage i m ∙ sym (storage-place i m))
           (λ i m. t .reason i m ∙ sym (reason-place i m))
-          (λ i m. t .name i m ∙ sym (name-place i m))
+          (λ i m. t .station i m ∙ sym (station-place i m))
           (λ w m. t .flow w m ∙ sym (flow-place w m))
           (λ w m. t .available w m ∙ sym (available-place w m))
           (λ v m. t .losses v m ∙ sym (evaporation-place v m))
@@ -126,35 +126,3 @@ module _ (b : Basin) (h : MonthRun) (names : ℕ → ℕ) (old : List ℕ) where
 
       pub report-by-parts : l ≡ made
       report-by-parts = ext-getD 0 l made (t .size ∙ sym made-size) (λ p o. same-at p)
-
--- a report depends only on the names of the basin's rights
-module _ (b : Basin) (h : MonthRun) (m k : ℕ → ℕ) (old : List ℕ) (e : (i : ℕ) → i < length (b .rights) → m i ≡ k i) where
-  line-same : (i q : ℕ) → i < length (b .rights) → q < 4 → told b h m old (fromRiverPlace i + q) ≡ told b h k old (fromRiverPlace i + q)
-  unfolding reportParts
-  line-same i q l o =
-      line-part (length (b .rights)) (rows b) (reportParts h m) i q l o
-      ∙ ap (λ (x : ℕ). grantNumber (grantAt (h .turns) i) x q) (e i l)
-      ∙ sym (line-part (length (b .rights)) (rows b) (reportParts h k) i q l o)
-
-  row-same : (w q : ℕ) → w < rows b → q < 2 → told b h m old (flowPlace (length (b .rights)) w + q) ≡ told b h k old (flowPlace (length (b .rights)) w + q)
-  unfolding reportParts
-  row-same w q l o = row-part (length (b .rights)) (rows b) (reportParts h m) w q l o ∙ sym (row-part (length (b .rights)) (rows b) (reportParts h k) w q l o)
-
-  loss-same : (v : ℕ) → told b h m old (evaporationPlace (length (b .rights)) (rows b) v) ≡ told b h k old (evaporationPlace (length (b .rights)) (rows b) v)
-  unfolding reportParts
-  loss-same v = evaporation-part (length (b .rights)) (rows b) (reportParts h m) v ∙ sym (evaporation-part (length (b .rights)) (rows b) (reportParts h k) v)
-
-  at-first : (p : ℕ) → told b h m old (p + 0) ≡ told b h k old (p + 0) → told b h m old p ≡ told b h k old p
-  at-first p x = subst (λ (q : ℕ). told b h m old q ≡ told b h k old q) (omega arith) x
-
-  pub report-same : reportOf b h m old ≡ reportOf b h k old
-  unfolding reportOf
-  report-same = ap (λ (l : List ℕ). l ++ drop (reportLength b) old) (tab-same (reportLength b) (told b h m old) (told b h k old)
-      (by-places (length (b .rights)) (rows b) (length (b .reservoirs)) (λ p. told b h m old p ≡ told b h k old p)
-      (λ i l. at-first (fromRiverPlace i) (line-same i 0 l (omega arith)))
-      (λ i l. line-same i 1 l (omega arith))
-      (λ i l. line-same i 2 l (omega arith))
-      (λ i l. line-same i 3 l (omega arith))
-      (λ w l. at-first (flowPlace (length (b .rights)) w) (row-same w 0 l (omega arith)))
-      (λ w l. row-same w 1 l (omega arith))
-      (λ v l. loss-same v)))

@@ -13,23 +13,23 @@ use Rattle.rules.specs.Turn.{Grant}
 use Rattle.rules.specs.Month.{grantAt, MonthRun, reasonNumber}
 use Rattle.rules.specs.Tally.{reportLength}
 
--- the four numbers of a right: its two amounts, the reason's number, the station named
-unfoldable pub grantNumber : Grant → ℕ → ℕ → ℕ
-grantNumber g station q = cond (eqb q 0) (g .fromRiver) (cond (eqb q 1) (g .fromStorage) (cond (eqb q 2) (reasonNumber (g .reason)) station))
+-- the four numbers of a right: its two amounts, the reason's number, the station that holds it back
+unfoldable pub grantNumber : Grant → ℕ → ℕ
+grantNumber g q = cond (eqb q 0) (g .fromRiver) (cond (eqb q 1) (g .fromStorage) (cond (eqb q 2) (reasonNumber (g .reason)) (g .station)))
 
 -- per row: flow, available flow. The rules reckon them with a sign. In a month from a possible board neither is negative (theorem `Checkpoints` of
 -- `ledger/specs/Account`), so that the number told is the flow itself, as the claim says there (`Tells`).
 unfoldable pub levelNumber : Level → ℕ → ℕ
 levelNumber x q = cond (eqb q 0) (natAbs (x .flow)) (natAbs (x .available))
 
--- what a month run has to tell; names gives the station named for each right, which 01 leaves free among those that may be named
-unfoldable pub reportParts : MonthRun → (ℕ → ℕ) → Parts
-reportParts h names = record {
-  line = λ i q. grantNumber (grantAt (h .turns) i) (names i) q;
+-- what a month run has to tell
+unfoldable pub reportParts : MonthRun → Parts
+reportParts h = record {
+  line = λ i q. grantNumber (grantAt (h .turns) i) q;
   row = λ w q. levelNumber (levelAt ((h .closed) .levels) w) q;
   evaporation = λ v. getD (h .evaporation) v 0;
 }
 
 -- Places beyond the report keep their content.
-unfoldable pub reportOf : Basin → MonthRun → (ℕ → ℕ) → List ℕ → List ℕ
-reportOf b h names old = tab (reportLength b) (partAt (length (b .rights)) (rows b) (reportParts h names)) ++ drop (reportLength b) old
+unfoldable pub reportOf : Basin → MonthRun → List ℕ → List ℕ
+reportOf b h old = tab (reportLength b) (partAt (length (b .rights)) (rows b) (reportParts h)) ++ drop (reportLength b) old

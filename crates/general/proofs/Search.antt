@@ -35,6 +35,10 @@ has-other i x xs h = rw (eqb-other i x h)
 pub has-single : (i x : ℕ) → i ≢ x → has i (x ∷ []) ≡ false
 has-single i x h = has-other i x [] h ∙ has-none i
 
+-- a member put in front adds none
+pub has-once : (i x : ℕ) (xs : List ℕ) → has x xs ≡ true → has i (x ∷ xs) ≡ true → has i xs ≡ true
+has-once i x xs m h = by-eqb i x (λ _. has i xs ≡ true) (λ e. rw e m) (λ e. sym (has-other i x xs e) ∙ h)
+
 -- ---- the first that passes
 
 module _ (t : ℕ → Bool) where

@@ -55,6 +55,13 @@ not-lt-of {m} {n} e = nltb→le m n (not-T-of e)
 pub leb-yes : (m n : ℕ) → m ≤ n → leb m n ≡ true
 leb-yes m n h = true-of (le→leb m n h)
 
+pub leb-no : (m n : ℕ) → n < m → leb m n ≡ false
+leb-no m n h = go (leb m n) refl
+  where
+    go : (b : Bool) → leb m n ≡ b → b ≡ false
+    go true e = absurd (omega (arith, h, le-of {m = m} {n = n} e))
+    go false e = refl
+
 pub ltb-yes : (m n : ℕ) → m < n → ltb m n ≡ true
 ltb-yes m n h = true-of (lt→ltb m n h)
 

@@ -5,10 +5,9 @@ use mathlib.Core.List.{List, [], _∷_, map}
 use mathlib.Core.Option.{Option, none, some}
 use Prim.Native.Nat.{ℕ}
 use lib.ListN.{length}
-use Rattle.general.specs.Tests.{has}
 use Rattle.general.proofs.Tests.{eqb-same, and-true}
 use Rattle.rules.specs.Basin.{Basin}
-use Rattle.rules.specs.Month.{MonthRun, shortCount, grantAt}
+use Rattle.rules.specs.Month.{MonthRun, shortCount}
 use Rattle.rules.specs.Tally.{Call, listsFit, overLimit, overAnswer, judged, refusal, Start, Tally, begun, pending, nextRun, standing, afterJudged, afterCall, afterCalls, answerJudged, answerOf}
 use Rattle.rules.specs.Answers.{Answer}
 use Rattle.rules.specs.Water.{MonthSound}
@@ -21,11 +20,10 @@ use Rattle.records.specs.Records.{basinOf}
 use Rattle.filecheck.specs.Check.{checkOf}
 use Rattle.boards.specs.Board.{possible}
 use Rattle.boards.specs.Report.{reportOf}
-use Rattle.places.specs.Report.{nameIn}
 use Rattle.places.specs.Board.{boardLength}
 use Rattle.answers.specs.Answers.{orElse, unless, lentRefusal}
 use Rattle.answers.proofs.Answers.{no-refusal}
-use Rattle.month.specs.Month.{callWith, allFit, monthRefusal, runOf, Outcome, monthSettled, monthOf, NamesAllowed, MonthMeets}
+use Rattle.month.specs.Month.{callWith, allFit, monthRefusal, runOf, Outcome, monthSettled, monthOf, MonthMeets}
 use Rattle.fresh.specs.Fresh.{freshRefusal, freshBoard, freshSettled, freshOf}
 use Rattle.ledger.specs.Account.{Event, callOf, Run, boardLeft, ReportOk, startOf, tallyBoard, Follows, AllFollow, Accounted, FreshBoard}
 use Rattle.boards.proofs.Board.{board-length}
@@ -83,33 +81,26 @@ module _ (f : List ℕ) (ok : checkOf f ≡ AcceptedFile) (acc : Accepted (basin
   abbrev Settled : Option Answer → Tally → Event → Type 0
   Settled v t e = ((e .outcome) .answer ≡ answerJudged v (basinOf f) t (callOf e)) × ReportOk v (basinOf f) t e × ((e .outcome) .board ≡ tallyBoard (basinOf f) (afterJudged v (basinOf f) t (callOf e)))
 
-  settled : (t : Tally) → Possible (basinOf f) (standing (basinOf f) t) → (e : Event) (v : Option Answer) (names : ℕ → ℕ) → refusal (basinOf f) (callOf e) ≡ v
-      → e .outcome ≡ monthSettled v (basinOf f) (e .runoff) (tallyBoard (basinOf f) t) (e .report) names
-      → NamesAllowed v (basinOf f) (runOf (basinOf f) (e .runoff) (tallyBoard (basinOf f) t)) (nameIn ((e .outcome) .report))
-      → Settled v t e
+  settled : (t : Tally) → Possible (basinOf f) (standing (basinOf f) t) → (e : Event) (v : Option Answer) → refusal (basinOf f) (callOf e) ≡ v
+      → e .outcome ≡ monthSettled v (basinOf f) (e .runoff) (tallyBoard (basinOf f) t) (e .report) → Settled v t e
   unfolding monthSettled answerJudged afterJudged
-  settled t p e none names w q h =
+  settled t p e none w q =
       let b : Basin = basinOf f in
       let c : Call = callOf e in
       let run : runOf b (e .runoff) (tallyBoard b t) ≡ nextRun b t c = tally-run b acc t p (e .runoff) (length (e .report)) in (
         ap (λ (o : Outcome). o .answer) q ∙ ap (λ (r : MonthRun). record { number = 0; place = shortCount (r .turns) }) run,
-        tells b acc t p c w names (e .report) ((e .outcome) .report) refl
-            (ap (λ (o : Outcome). o .report) q ∙ ap (λ (r : MonthRun). reportOf b r names (e .report)) run)
-            (λ i l. subst (λ (r : MonthRun). has (nameIn ((e .outcome) .report) i) ((grantAt (r .turns) i) .stations) ≡ true) run (h i l)),
+        tells b acc t p c w (e .report) ((e .outcome) .report) refl (ap (λ (o : Outcome). o .report) q ∙ ap (λ (r : MonthRun). reportOf b r (e .report)) run),
         ap (λ (o : Outcome). o .board) q ∙ tally-next b acc t p c,
       )
-  settled t p e (some a) names w q h = (ap (λ (o : Outcome). o .answer) q, ap (λ (o : Outcome). o .report) q, ap (λ (o : Outcome). o .board) q)
+  settled t p e (some a) w q = (ap (λ (o : Outcome). o .answer) q, ap (λ (o : Outcome). o .report) q, ap (λ (o : Outcome). o .board) q)
 
   follow : (t : Tally) → Possible (basinOf f) (standing (basinOf f) t) → (e : Event) → MonthMeets f (e .runoff) (tallyBoard (basinOf f) t) (e .report) (e .outcome) → Follows (basinOf f) t e
   unfolding afterCall answerOf monthOf
   follow t p e m =
       let b : Basin = basinOf f in
       let board : List ℕ = tallyBoard b t in
-      let names : ℕ → ℕ = nameIn ((e .outcome) .report) in
       let same : monthRefusal f (e .runoff) board (e .report) ≡ refusal b (callOf e) = same-refusal f (e .runoff) board (e .report) ok (tally-length b t) (tally-possible b acc t p) in
-      let s : Settled (refusal b (callOf e)) t e = settled t p e (refusal b (callOf e)) names refl
-      (m .equation ∙ ap (λ (v : Option Answer). monthSettled v b (e .runoff) board (e .report) names) same)
-      (subst (λ (v : Option Answer). NamesAllowed v b (runOf b (e .runoff) board) names) same (m .names)) in
+      let s : Settled (refusal b (callOf e)) t e = settled t p e (refusal b (callOf e)) refl (m ∙ ap (λ (v : Option Answer). monthSettled v b (e .runoff) board (e .report)) same) in
       record { answer = s .0; report = s .1; board = s .2 }
 
   all-follow : (t : Tally) → Possible (basinOf f) (standing (basinOf f) t) → (es : List Event) → Run f (tallyBoard (basinOf f) t) es → AllFollow (basinOf f) t es

@@ -1,27 +1,25 @@
 -- The report of a month: told number by number it is told whole, and an accepted call tells it. Assumes nothing.
-use mathlib.Core.Path.{_≡_, refl, sym, ap, _∙_}
-use mathlib.Core.Bool.{true}
+use mathlib.Core.Path.{_≡_, sym, ap, _∙_}
 use mathlib.Core.List.{List}
 use mathlib.Core.Option.{none}
-use Prim.Native.Nat.{ℕ, _+_, _-_, _≤_, _<_}
+use Prim.Native.Nat.{ℕ, _+_, _-_, _≤_}
 use native.Mathlib.Omega.{arith}
 use lib.ListN.{length, getD, drop}
 use lib.Seq.{getD-drop}
 use lib.IntN.{ℤ, pos, natAbs}
-use Rattle.general.specs.Tests.{has}
 use Rattle.general.proofs.Signed.{le-transℤ}
 use Rattle.general.proofs.Tests.{le-of, both-of}
 use Rattle.rules.specs.Basin.{Basin, rows}
 use Rattle.rules.specs.River.{Sound, levelAt}
-use Rattle.rules.specs.Month.{MonthRun, grantAt}
+use Rattle.rules.specs.Month.{MonthRun}
 use Rattle.rules.specs.Tally.{Call, reportLength, listsFit, refusal, Tally, arriving, nextRun, standing}
 use Rattle.rules.specs.Accepted.{Accepted}
 use Rattle.rules.specs.Theorems.{Possible}
 use Rattle.rules.proofs.Months.{month-ok}
 use Rattle.boards.specs.Report.{reportOf}
-use Rattle.places.specs.Report.{fromRiverPlace, fromStoragePlace, reasonPlace, flowPlace, availablePlace, evaporationPlace, nameIn}
+use Rattle.places.specs.Report.{fromRiverPlace, fromStoragePlace, reasonPlace, stationPlace, flowPlace, availablePlace, evaporationPlace}
 use Rattle.ledger.specs.Account.{Tells}
-use Rattle.boards.proofs.Report.{report-by-parts, made-size, own-number, river-place, storage-place, reason-place, flow-place, available-place, evaporation-place, places-beyond}
+use Rattle.boards.proofs.Report.{report-by-parts, made-size, own-number, river-place, storage-place, reason-place, station-place, flow-place, available-place, evaporation-place, places-beyond}
 use Rattle.rules.proofs.Sums.{judged-none}
 
 -- ---- nothing is left untold
@@ -29,13 +27,13 @@ use Rattle.rules.proofs.Sums.{judged-none}
 number-of : (n : ℕ) (z : ℤ) → pos n ≡ z → n ≡ natAbs z
 number-of n z e = ap natAbs e
 
-pub all-told : (b : Basin) (h : MonthRun) (before after : List ℕ) → Tells b h before after → reportLength b ≤ length before → after ≡ reportOf b h (nameIn after) before
-all-told b h before after t n = report-by-parts b h (nameIn after) before n after (record {
+pub all-told : (b : Basin) (h : MonthRun) (before after : List ℕ) → Tells b h before after → reportLength b ≤ length before → after ≡ reportOf b h before
+all-told b h before after t n = report-by-parts b h before n after (record {
   size = t .size;
   river = t .from-river;
   storage = t .from-storage;
   reason = t .reason;
-  name = λ i l. refl;
+  station = t .station;
   flow = λ w l. number-of _ _ (t .flow w l);
   available = λ w l. number-of _ _ (t .available w l);
   losses = t .evaporation;
@@ -58,19 +56,18 @@ module _ (b : Basin) (acc : Accepted b) (t : Tally) (p : Possible b (standing b 
   unfolding nextRun standing
   closed-sound w = (month-ok b acc (t .carried) (p .storages-count) (c .runoff) (arriving b (t .start) (t .months))) .closed-good .sound w
 
-  pub tells : (names : ℕ → ℕ) (before after : List ℕ) → length before ≡ c .report → after ≡ reportOf b (nextRun b t c) names before
-      → ((i : ℕ) → i < length (b .rights) → has (nameIn after i) ((grantAt ((nextRun b t c) .turns) i) .stations) ≡ true) → Tells b (nextRun b t c) before after
-  tells names before after n e h =
+  pub tells : (before after : List ℕ) → length before ≡ c .report → after ≡ reportOf b (nextRun b t c) before → Tells b (nextRun b t c) before after
+  tells before after n e =
       let r : MonthRun = nextRun b t c in
-      let read : (q : ℕ) → getD after q 0 ≡ getD (reportOf b r names before) q 0 = λ q. ap (λ (x : List ℕ). getD x q 0) e in
+      let read : (q : ℕ) → getD after q 0 ≡ getD (reportOf b r before) q 0 = λ q. ap (λ (x : List ℕ). getD x q 0) e in
       record {
-        from-river = λ i l. read (fromRiverPlace i) ∙ river-place b r names before i l;
-        from-storage = λ i l. read (fromStoragePlace i) ∙ storage-place b r names before i l;
-        reason = λ i l. read (reasonPlace i) ∙ reason-place b r names before i l;
-        station = h;
-        flow = λ w l. ap pos (read (flowPlace (length (b .rights)) w) ∙ flow-place b r names before w l) ∙ own-number _ (le-transℤ (closed-sound w .not-negative) (closed-sound w .within-flow));
-        available = λ w l. ap pos (read (availablePlace (length (b .rights)) w) ∙ available-place b r names before w l) ∙ own-number _ (closed-sound w .not-negative);
-        evaporation = λ v l. read (evaporationPlace (length (b .rights)) (rows b) v) ∙ evaporation-place b r names before v l;
-        beyond = ap (drop (reportLength b)) e ∙ places-beyond b r names before;
-        size = ap (λ (x : List ℕ). length x) e ∙ made-size b r names before (omega (arith, report-fits b c accepted));
+        from-river = λ i l. read (fromRiverPlace i) ∙ river-place b r before i l;
+        from-storage = λ i l. read (fromStoragePlace i) ∙ storage-place b r before i l;
+        reason = λ i l. read (reasonPlace i) ∙ reason-place b r before i l;
+        station = λ i l. read (stationPlace i) ∙ station-place b r before i l;
+        flow = λ w l. ap pos (read (flowPlace (length (b .rights)) w) ∙ flow-place b r before w l) ∙ own-number _ (le-transℤ (closed-sound w .not-negative) (closed-sound w .within-flow));
+        available = λ w l. ap pos (read (availablePlace (length (b .rights)) w) ∙ available-place b r before w l) ∙ own-number _ (closed-sound w .not-negative);
+        evaporation = λ v l. read (evaporationPlace (length (b .rights)) (rows b) v) ∙ evaporation-place b r before v l;
+        beyond = ap (drop (reportLength b)) e ∙ places-beyond b r before;
+        size = ap (λ (x : List ℕ). length x) e ∙ made-size b r before (omega (arith, report-fits b c accepted));
       }

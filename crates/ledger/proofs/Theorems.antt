@@ -1,13 +1,13 @@
 -- The theorems of specs/Account.antt, for every file that the check accepts. Assumes nothing.
-use mathlib.Core.Path.{subst}
+use mathlib.Core.Path.{sym, _∙_, subst}
 use mathlib.Core.List.{List}
 use Prim.Native.Nat.{ℕ}
 use Rattle.rules.specs.Tally.{Start}
 use Rattle.filecheck.proofs.Accepted.{accepted-facts}
-use Rattle.ledger.specs.Account.{TellsAll, Accounted, Claim, FreshBoard, FreshStarts, FromFresh, Checkpoints, NotEmpty}
+use Rattle.ledger.specs.Account.{TellsAll, Accounted, Claim, FreshBoard, FreshStarts, FromFresh, Checkpoints, OneReport, OneRun}
 use Rattle.ledger.proofs.Telling.{all-told}
 use Rattle.ledger.proofs.Account.{accounted, fresh-facts, board-checkpoints}
-use Rattle.ledger.proofs.Runs.{run-exists}
+use Rattle.ledger.proofs.Runs.{only-run}
 use Rattle.fresh.specs.Fresh.{freshOf}
 
 pub claim : Claim
@@ -28,5 +28,8 @@ from-fresh f board e n es r =
 pub checkpoints : Checkpoints
 checkpoints f board runoff e n can = board-checkpoints f e (accepted-facts f e) board runoff n can
 
-pub not-empty : NotEmpty
-not-empty f board e cs = run-exists f (accepted-facts f e) board cs
+pub one-report : OneReport
+one-report f runoff board report x y u v = u ∙ sym v
+
+pub one-run : OneRun
+one-run f board cs = only-run f board cs

@@ -7,7 +7,6 @@ use mathlib.Core.Option.{Option, none, some}
 use Prim.Native.Nat.{ℕ, _≤_, _<_}
 use lib.ListN.{length, getD, drop}
 use lib.IntN.{pos}
-use Rattle.general.specs.Tests.{has}
 use Rattle.rules.specs.Basin.{Basin, rows}
 use Rattle.rules.specs.River.{flowAt, availableAt}
 use Rattle.rules.specs.Month.{MonthRun, reasonNumber, grantAt}
@@ -20,7 +19,7 @@ use Rattle.filecheck.specs.Check.{checkOf}
 use Rattle.places.specs.Board.{boardLength, dueAt}
 use Rattle.boards.specs.Board.{carriedOf, boardOf, possible}
 use Rattle.boards.specs.Report.{reportOf}
-use Rattle.places.specs.Report.{fromRiverPlace, fromStoragePlace, reasonPlace, flowPlace, availablePlace, evaporationPlace, nameIn}
+use Rattle.places.specs.Report.{fromRiverPlace, fromStoragePlace, reasonPlace, stationPlace, flowPlace, availablePlace, evaporationPlace}
 use Rattle.fresh.specs.Fresh.{freshOf}
 use Rattle.month.specs.Month.{callWith, runOf, Outcome, MonthMeets}
 
@@ -50,12 +49,11 @@ boardLeft board (e ∷ es) = boardLeft ((e .outcome) .board) es
 
 -- the report after a month run, told number by number; before is the report that was lent
 pub record Tells (b : Basin) (h : MonthRun) (before after : List ℕ) : Type 0 where
-  -- all grants: river part, reservoir part and reason
+  -- all grants: river part, reservoir part, reason and station
   pub from-river : (i : ℕ) → i < length (b .rights) → getD after (fromRiverPlace i) 0 ≡ (grantAt (h .turns) i) .fromRiver
   pub from-storage : (i : ℕ) → i < length (b .rights) → getD after (fromStoragePlace i) 0 ≡ (grantAt (h .turns) i) .fromStorage
   pub reason : (i : ℕ) → i < length (b .rights) → getD after (reasonPlace i) 0 ≡ reasonNumber ((grantAt (h .turns) i) .reason)
-  -- each station named is one that may be named
-  pub station : (i : ℕ) → i < length (b .rights) → has (nameIn after i) ((grantAt (h .turns) i) .stations) ≡ true
+  pub station : (i : ℕ) → i < length (b .rights) → getD after (stationPlace i) 0 ≡ (grantAt (h .turns) i) .station
   -- flows and available flows, as signed numbers
   pub flow : (w : ℕ) → w < rows b → pos (getD after (flowPlace (length (b .rights)) w) 0) ≡ flowAt ((h .closed) .levels) w
   pub available : (w : ℕ) → w < rows b → pos (getD after (availablePlace (length (b .rights)) w) 0) ≡ availableAt ((h .closed) .levels) w
@@ -65,9 +63,9 @@ pub record Tells (b : Basin) (h : MonthRun) (before after : List ℕ) : Type 0 w
   pub beyond : drop (reportLength b) after ≡ drop (reportLength b) before
   pub size : length after ≡ length before
 
--- Nothing is left untold: a report of which all this holds is the month's report, number for number, with the stations that it names itself.
+-- Nothing is left untold: a report of which all this holds is the month's report, number for number.
 abbrev pub TellsAll : Type 0
-TellsAll = (b : Basin) (h : MonthRun) (before after : List ℕ) → reportLength b ≤ length before → Tells b h before after → after ≡ reportOf b h (nameIn after) before
+TellsAll = (b : Basin) (h : MonthRun) (before after : List ℕ) → reportLength b ≤ length before → Tells b h before after → after ≡ reportOf b h before
 
 -- an accepted call tells the tally's month; a refused one leaves the report as it was
 abbrev pub ReportOk : Option Answer → Basin → Tally → Event → Type 0
@@ -129,7 +127,21 @@ FromFresh = (f board : List ℕ) → checkOf f ≡ Accepted → length board ≡
 abbrev pub Checkpoints : Type 0
 Checkpoints = (f board runoff : List ℕ) → checkOf f ≡ Accepted → length board ≡ boardLength → possible (basinOf f) board ≡ true → MonthSound (basinOf f) (runOf (basinOf f) runoff board)
 
--- ---- the claim is not empty: from every board, for every list of runoffs and reports, there is a run of calls that meet the contract
+-- ---- a month has one report: two outcomes of one call, on any file and lists, are equal
 
-abbrev pub NotEmpty : Type 0
-NotEmpty = (f board : List ℕ) → checkOf f ≡ Accepted → (cs : List (List ℕ × List ℕ)) → (es : List Event) × (map (λ (e : Event). (e .runoff, e .report)) es ≡ cs) × Run f board es
+abbrev pub OneReport : Type 0
+OneReport = (f runoff board report : List ℕ) (x y : Outcome) → MonthMeets f runoff board report x → MonthMeets f runoff board report y → x ≡ y
+
+-- ---- so the claim is not empty and has no two meanings: from every board, on any file, the calls that lend these runoffs and reports are one run
+
+abbrev pub lentTo : List Event → List (List ℕ × List ℕ)
+lentTo es = map (λ (e : Event). (e .runoff, e .report)) es
+
+pub record OnlyRun (f board : List ℕ) (cs : List (List ℕ × List ℕ)) : Type 0 where
+  pub events : List Event
+  pub lends : lentTo events ≡ cs
+  pub meets : Run f board events
+  pub no-other : (es : List Event) → lentTo es ≡ cs → Run f board es → es ≡ events
+
+abbrev pub OneRun : Type 0
+OneRun = (f board : List ℕ) (cs : List (List ℕ × List ℕ)) → OnlyRun f board cs

@@ -6,7 +6,7 @@ use native.Mathlib.Numerals.{add-one}
 use native.Mathlib.Omega.{arith}
 use lib.ListN.{length, getD, take, set, length-set}
 use lib.Seq.{take-suc, take-suc-set, take-length}
-use Rattle.places.specs.Report.{fromRiverPlace, fromStoragePlace, reasonPlace, flowPlace, evaporationPlace, nameIn}
+use Rattle.places.specs.Report.{fromRiverPlace, fromStoragePlace, reasonPlace, stationPlace, flowPlace, evaporationPlace}
 use Rattle.general.specs.Sums.{sumTo}
 use Rattle.numbers.specs.Bytes.{le32At}
 use Rattle.rules.specs.Basin.{Right}
@@ -125,7 +125,7 @@ word-then {at} {t} {o} w x y z =
 pub right-put : {at p q r : ℕ} {o o′ o″ o‴ : List ℕ} (month : ℕ) (rights report : List ℕ) (i permit : ℕ) → permit ≡ le32At rights (76 * i)
     → Put 21 at (decimalText month ++ (space ∷ [])) o o′ p
     → Put 21 p (decimalText permit ++ (space ∷ [])) o′ o″ q
-    → Put 84 q (lineOf (decimalText (getD report (fromRiverPlace i) 0) ∷ decimalText (getD report (fromStoragePlace i) 0) ∷ decimalText (getD report (reasonPlace i) 0) ∷ decimalText (nameIn report i) ∷ [])) o″ o‴ r
+    → Put 84 q (lineOf (decimalText (getD report (fromRiverPlace i) 0) ∷ decimalText (getD report (fromStoragePlace i) 0) ∷ decimalText (getD report (reasonPlace i) 0) ∷ decimalText (getD report (stationPlace i) 0) ∷ [])) o″ o‴ r
     → Put 126 at (rightLine month (rightOf rights i) report i) o o‴ r
 unfolding rightLine rightOf rightRecord
 right-put {p} {q} {o′} {o″} month rights report i permit e x y z =

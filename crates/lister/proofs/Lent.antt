@@ -103,7 +103,7 @@ module _ (f st rs ps ri : List ℕ) (e₀ : st ≡ sectionOf f 0) (e₁ : rs ≡
             told-as (monthText (basinOf f) (p .months) rp′ bd′) (record { text = monthText (basinOf f) (p .months) rp′ bd′; standing = record { months = suc (p .months); board = bd′ }; more = true })
             (subst (λ (x : Basin). Put mostText (p .at) (monthText x (p .months) rp′ bd′) out out′ q) same (put ps))
             (λ i. record { text = monthText (basinOf f) (p .months) rp′ bd′; standing = record { months = add-one (p .months) i; board = bd′ }; more = true })
-            (month-meets (basinOf f) (standing p bd) part rp rp′ bd′ (acc .connected .some-row) whole (k .none-over) (k .names) (k .report) (k .board)) still (omega (arith, some-bytes))
+            (month-meets (basinOf f) (standing p bd) part rp rp′ bd′ (acc .connected .some-row) whole (k .none-over) (k .report) (k .board)) still (omega (arith, some-bytes))
 
 -- ---- a part that is no whole sheet
 
@@ -124,7 +124,7 @@ module _ (f part : List ℕ) (p : Progress) (bd rp out : List ℕ) (can : CanSte
   part-ended z = record {
     text = [];
     put = record { put = sym (append-nil (take (p .at) out)); within = omega arith };
-    meets = ended-meets (basinOf f) (standing p bd) part (facts .connected .some-row) z;
+    meets = ended-meets (basinOf f) (standing p bd) part z;
     can = can .in-order .can;
     counted = omega arith;
   }

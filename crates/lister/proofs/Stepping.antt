@@ -4,7 +4,7 @@ use Rattle.rules.specs.declared.Verdict.the-variants.{Lists}
 use mathlib.Core.Bool.{true, false}
 use mathlib.Core.List.{List, [], _∷_, _++_, map}
 use mathlib.Core.Option.{Option, none, some}
-use mathlib.Core.Path.{_≡_, refl, sym, ap, _∙_, subst}
+use mathlib.Core.Path.{_≡_, refl, sym, ap, _∙_}
 use Prim.Native.Nat.{ℕ, zero, suc, _+_, _<_}
 use native.Mathlib.Omega.{arith}
 use lib.ListN.{length, getD, drop, List·getD-append}
@@ -18,9 +18,9 @@ use Rattle.rules.specs.Answers.{Answer, told}
 use Rattle.rules.specs.Tally.{reportLength, overLimit, overAnswer}
 use Rattle.boards.specs.Board.{storageSum, dueSum}
 use Rattle.boards.specs.Report.{reportParts, reportOf}
-use Rattle.places.specs.Report.{fromRiverPlace, fromStoragePlace, reasonPlace, stationPlace, linesEnd, flowPlace, evaporationPlace, nameIn, partAt}
+use Rattle.places.specs.Report.{fromRiverPlace, fromStoragePlace, reasonPlace, stationPlace, linesEnd, flowPlace, evaporationPlace, partAt}
 use Rattle.answers.specs.Answers.{orElse, unless}
-use Rattle.month.specs.Month.{runOf, boardAfter, Outcome, monthSettled, NamesAllowed}
+use Rattle.month.specs.Month.{runOf, boardAfter, Outcome, monthSettled}
 use Rattle.month.specs.Run.{SheetRan}
 use Rattle.listing.specs.Listing.{rightLine, rightLines, decimalText, lineOf, endLine, outflowIn, evaporationIn, monthText, refusalLine}
 use Rattle.listing.specs.Run.{sheetOf, sheetBytes, partRefusal, Standing, Step, sheetStep, stepOf}
@@ -36,28 +36,28 @@ module _ (month : ℕ) (rights : List Right) (x y : List ℕ) where
       ++ lineOf (map decimalText (month ∷ (getD rights n noRight) .permit
       ∷ h (fromRiverPlace n) (omega arith) z ∷ h (fromStoragePlace n) (omega arith) z ∷ h (reasonPlace n) (omega arith) z ∷ h (stationPlace n) (omega arith) z ∷ []))
 
-module _ (b : Basin) (h : MonthRun) (names : ℕ → ℕ) (old : List ℕ) where
-  place-same : (p : ℕ) → p < reportLength b → getD (reportOf b h names old) p 0 ≡ getD (reportOf b h names []) p 0
+module _ (b : Basin) (h : MonthRun) (old : List ℕ) where
+  place-same : (p : ℕ) → p < reportLength b → getD (reportOf b h old) p 0 ≡ getD (reportOf b h []) p 0
   unfolding reportOf
-  place-same p l = let k : p < length (tab (reportLength b) (partAt (length (b .rights)) (rows b) (reportParts h names))) = rw (tab-length (partAt (length (b .rights)) (rows b) (reportParts h names)) (reportLength b)) l in
-      List·getD-append (tab (reportLength b) (partAt (length (b .rights)) (rows b) (reportParts h names))) (drop (reportLength b) old) 0 p k
-      ∙ sym (List·getD-append (tab (reportLength b) (partAt (length (b .rights)) (rows b) (reportParts h names))) (drop (reportLength b) []) 0 p k)
+  place-same p l = let k : p < length (tab (reportLength b) (partAt (length (b .rights)) (rows b) (reportParts h))) = rw (tab-length (partAt (length (b .rights)) (rows b) (reportParts h)) (reportLength b)) l in
+      List·getD-append (tab (reportLength b) (partAt (length (b .rights)) (rows b) (reportParts h))) (drop (reportLength b) old) 0 p k
+      ∙ sym (List·getD-append (tab (reportLength b) (partAt (length (b .rights)) (rows b) (reportParts h))) (drop (reportLength b) []) 0 p k)
 
-  text-same : 0 < rows b → (month : ℕ) (board : List ℕ) → monthText b month (reportOf b h names old) board ≡ monthText b month (reportOf b h names []) board
+  text-same : 0 < rows b → (month : ℕ) (board : List ℕ) → monthText b month (reportOf b h old) board ≡ monthText b month (reportOf b h []) board
   unfolding monthText outflowIn evaporationIn
   text-same row month board = λ z.
-      lines-same month (b .rights) (reportOf b h names old) (reportOf b h names []) (length (b .rights)) (λ p l. place-same p (omega arith)) z
+      lines-same month (b .rights) (reportOf b h old) (reportOf b h []) (length (b .rights)) (λ p l. place-same p (omega arith)) z
       ++ endLine month (place-same (flowPlace (length (b .rights)) (lastRow b)) (omega (arith, row)) z)
       (sumTo-same (length (b .reservoirs)) _ _ (λ v l. place-same (evaporationPlace (length (b .rights)) (rows b) v) (omega arith)) z) (storageSum b board) (dueSum b board)
 
 -- ---- which step a part makes
 
 module _ (b : Basin) (s : Standing) (part : List ℕ) where
-  step-some : (names : ℕ → ℕ) → 0 < length part → stepOf b s part names ≡ sheetStep (partRefusal b part) b s (sheetOf (rows b) part) names
+  step-some : 0 < length part → stepOf b s part ≡ sheetStep (partRefusal b part) b s (sheetOf (rows b) part)
   unfolding stepOf
-  step-some names = go part
+  step-some = go part
     where
-      go : (l : List ℕ) → 0 < length l → stepOf b s l names ≡ sheetStep (partRefusal b l) b s (sheetOf (rows b) l) names
+      go : (l : List ℕ) → 0 < length l → stepOf b s l ≡ sheetStep (partRefusal b l) b s (sheetOf (rows b) l)
       go [] h = absurd (omega arith)
       go (x ∷ l) h = refl
 
@@ -72,11 +72,7 @@ module _ (b : Basin) (s : Standing) (part : List ℕ) where
   -- a part that is turned down
   pub refused-meets : (a : Answer) → 0 < length part → partRefusal b part ≡ some a → StepMeets b s part (record { text = refusalLine a; standing = s; more = false })
   unfolding sheetStep
-  refused-meets a some-bytes e = record {
-    names = λ i. 0;
-    allowed = subst (λ (v : Option Answer). NamesAllowed v b (runOf b (sheetOf (rows b) part) (s .board)) (λ i. 0)) (sym e) tt;
-    equation = sym (step-some (λ i. 0) some-bytes ∙ rw e);
-  }
+  refused-meets a some-bytes e = sym (step-some some-bytes ∙ rw e)
 
   -- a part too short, or none
   pub short-meets : 0 < length part → (length part ≡ sheetBytes b → ⊥) → StepMeets b s part (record { text = refusalLine (told Lists); standing = s; more = false })
@@ -88,40 +84,31 @@ module _ (b : Basin) (s : Standing) (part : List ℕ) where
 
   -- a month
   pub month-meets : (old rp′ bd′ : List ℕ) → 0 < rows b → length part ≡ sheetBytes b → overAnswer (overLimit (sheetOf (rows b) part)) ≡ none
-      → NamesAllowed none b (runOf b (sheetOf (rows b) part) (s .board)) (nameIn rp′)
-      → rp′ ≡ reportOf b (runOf b (sheetOf (rows b) part) (s .board)) (nameIn rp′) old
+      → rp′ ≡ reportOf b (runOf b (sheetOf (rows b) part) (s .board)) old
       → bd′ ≡ boardAfter b (sheetOf (rows b) part) (s .board)
       → StepMeets b s part (record { text = monthText b (s .months) rp′ bd′; standing = record { months = suc (s .months); board = bd′ }; more = true })
   unfolding sheetStep
-  month-meets old rp′ bd′ row h e names er eb =
+  month-meets old rp′ bd′ row h e er eb =
       let e′ : partRefusal b part ≡ none = whole-refusal h ∙ e in
       let run : MonthRun = runOf b (sheetOf (rows b) part) (s .board) in
-      let et : monthText b (s .months) rp′ bd′ ≡ monthText b (s .months) (reportOf b run (nameIn rp′) []) (boardAfter b (sheetOf (rows b) part) (s .board)) =
+      let et : monthText b (s .months) rp′ bd′ ≡ monthText b (s .months) (reportOf b run []) (boardAfter b (sheetOf (rows b) part) (s .board)) =
       ap (λ (x : List ℕ). monthText b (s .months) x bd′) er
-      ∙ text-same b run (nameIn rp′) old row (s .months) bd′
-      ∙ ap (λ (x : List ℕ). monthText b (s .months) (reportOf b run (nameIn rp′) []) x) eb in
-      record {
-        names = nameIn rp′;
-        allowed = subst (λ (v : Option Answer). NamesAllowed v b run (nameIn rp′)) (sym e′) names;
-        equation = (λ z. record { text = et z; standing = record { months = suc (s .months); board = eb z }; more = true }) ∙ sym (step-some (nameIn rp′) (omega (arith, h, row)) ∙ rw e′);
-      }
+      ∙ text-same b run old row (s .months) bd′
+      ∙ ap (λ (x : List ℕ). monthText b (s .months) (reportOf b run []) x) eb in
+      (λ z. record { text = et z; standing = record { months = suc (s .months); board = eb z }; more = true }) ∙ sym (step-some (omega (arith, h, row)) ∙ rw e′)
 
 -- where the file is at its end
-pub ended-meets : (b : Basin) (s : Standing) (part : List ℕ) → 0 < rows b → length part ≡ 0 → StepMeets b s part (record { text = []; standing = s; more = false })
+pub ended-meets : (b : Basin) (s : Standing) (part : List ℕ) → length part ≡ 0 → StepMeets b s part (record { text = []; standing = s; more = false })
 unfolding stepOf
-ended-meets b s [] row h = record {
-  names = λ i. 0;
-  allowed = subst (λ (v : Option Answer). NamesAllowed v b (runOf b (sheetOf (rows b) []) (s .board)) (λ i. 0)) (sym (short-refusal b s [] (λ e. omega (arith, e, row)))) tt;
-  equation = refl;
-}
-ended-meets b s (x ∷ part) row h = absurd (omega (arith, h))
+ended-meets b s [] h = refl
+ended-meets b s (x ∷ part) h = absurd (omega (arith, h))
 
 -- a part that is no whole sheet is a run's last
 pub short-ends : (b : Basin) (s : Standing) (part : List ℕ) → length part < sheetBytes b → (o : Step) → StepMeets b s part o → o .more ≡ false
 unfolding stepOf sheetStep
-short-ends b s part h o w = ap (λ (x : Step). x .more) (w .equation) ∙ go part h
+short-ends b s part h o w = ap (λ (x : Step). x .more) w ∙ go part h
   where
-    go : (l : List ℕ) → length l < sheetBytes b → (stepOf b s l (w .names)) .more ≡ false
+    go : (l : List ℕ) → length l < sheetBytes b → (stepOf b s l) .more ≡ false
     go [] k = refl
     go (x ∷ l) k = rw (short-refusal b s (x ∷ l) (λ e. omega (arith, e, k)))
 
@@ -129,11 +116,11 @@ short-ends b s part h o w = ap (λ (x : Step). x .more) (w .equation) ∙ go par
 
 module _ (b : Basin) (runoff bd rp bd′ rp′ : List ℕ) (a : Answer) (w : SheetRan b runoff bd rp (record { answer = a; board = bd′; report = rp′ })) where
   abbrev settledBy : Option Answer → Outcome
-  settledBy v = monthSettled v b runoff bd rp (nameIn rp′)
+  settledBy v = monthSettled v b runoff bd rp
 
   pub went-refused : (a .number ≡ 0 → ⊥) → (overAnswer (overLimit runoff) ≡ some a) × (bd′ ≡ bd)
   unfolding monthSettled
-  went-refused n = go (overAnswer (overLimit runoff)) (w .equation)
+  went-refused n = go (overAnswer (overLimit runoff)) w
     where
       go : (v : Option Answer) → record { answer = a; board = bd′; report = rp′ } ≡ settledBy v → (v ≡ some a) × (bd′ ≡ bd)
       go none e = absurd (n (ap (λ (x : Outcome). (x .answer) .number) e))
@@ -143,16 +130,15 @@ module _ (b : Basin) (runoff bd rp bd′ rp′ : List ℕ) (a : Answer) (w : She
   pub record RanBy (v : Option Answer) : Type 0 where
     pub none-over : v ≡ none
     pub board : bd′ ≡ boardAfter b runoff bd
-    pub report : rp′ ≡ reportOf b (runOf b runoff bd) (nameIn rp′) rp
-    pub names : NamesAllowed none b (runOf b runoff bd) (nameIn rp′)
+    pub report : rp′ ≡ reportOf b (runOf b runoff bd) rp
 
   abbrev pub Ran : Type 0
   Ran = RanBy (overAnswer (overLimit runoff))
 
   pub went-on : a .number ≡ 0 → Ran
   unfolding monthSettled overAnswer
-  went-on n = go (overLimit runoff) (w .equation) (w .names)
+  went-on n = go (overLimit runoff) w
     where
-      go : (v : Option ℕ) → record { answer = a; board = bd′; report = rp′ } ≡ settledBy (overAnswer v) → NamesAllowed (overAnswer v) b (runOf b runoff bd) (nameIn rp′) → RanBy (overAnswer v)
-      go none e k = record { none-over = refl; board = ap (λ (y : Outcome). y .board) e; report = ap (λ (y : Outcome). y .report) e; names = k }
-      go (some i) e k = absurd (let z : a .number ≡ 8 = ap (λ (x : Outcome). (x .answer) .number) e in omega (arith, z, n))
+      go : (v : Option ℕ) → record { answer = a; board = bd′; report = rp′ } ≡ settledBy (overAnswer v) → RanBy (overAnswer v)
+      go none e = record { none-over = refl; board = ap (λ (y : Outcome). y .board) e; report = ap (λ (y : Outcome). y .report) e }
+      go (some i) e = absurd (let z : a .number ≡ 8 = ap (λ (x : Outcome). (x .answer) .number) e in omega (arith, z, n))

@@ -1,4 +1,3 @@
 pub mod Steps
 pub mod Blocks
-pub mod Nameable
 pub mod October

@@ -9,7 +9,7 @@ use Rattle.rules.specs.Basin.{Right, Basin, noRight, rows}
 use Rattle.rules.specs.Path.{lastRow}
 use Rattle.rules.specs.Answers.{Answer}
 use Rattle.boards.specs.Board.{storageSum, dueSum}
-use Rattle.places.specs.Report.{fromRiverPlace, fromStoragePlace, reasonPlace, flowPlace, evaporationPlace, nameIn}
+use Rattle.places.specs.Report.{fromRiverPlace, fromStoragePlace, reasonPlace, stationPlace, flowPlace, evaporationPlace}
 
 -- ---- a number
 
@@ -43,7 +43,7 @@ lineOf (w ∷ v ∷ l) = w ++ (space ∷ lineOf (v ∷ l))
 -- The line of right r, the i-th of the list: the month's count, the permit, and the four numbers that the report has of it.
 unfoldable pub rightLine : ℕ → Right → List ℕ → ℕ → List ℕ
 rightLine month r report i =
-    lineOf (map decimalText (month ∷ r .permit ∷ getD report (fromRiverPlace i) 0 ∷ getD report (fromStoragePlace i) 0 ∷ getD report (reasonPlace i) 0 ∷ nameIn report i ∷ []))
+    lineOf (map decimalText (month ∷ r .permit ∷ getD report (fromRiverPlace i) 0 ∷ getD report (fromStoragePlace i) 0 ∷ getD report (reasonPlace i) 0 ∷ getD report (stationPlace i) 0 ∷ []))
 
 -- the lines of the first n rights of the list
 unfoldable pub rightLines : ℕ → List Right → List ℕ → ℕ → List ℕ

@@ -2,10 +2,10 @@
 use mathlib.Core.List.{List, [], _∷_, _++_}
 use mathlib.Core.Path.{_≡_}
 use Prim.Native.Nat.{ℕ, _+_}
-use lib.ListN.{getD, take}
+use lib.ListN.{take}
 use Rattle.filecheck.specs.October.{octoberFile}
 use Rattle.listing.specs.Listing.{decimalText}
-use Rattle.listing.specs.Run.{listingOf, ListingNames}
+use Rattle.listing.specs.Run.{listingOf}
 
 -- its one sheet of runoff: 2000, 700 and 300
 abbrev pub octoberMonths : List ℕ
@@ -43,10 +43,6 @@ sixthLine = 48 ∷ 32 ∷ 101 ∷ 110 ∷ 100 ∷ 32 ∷ 48 ∷ 32 ∷ 55 ∷ 53
 abbrev pub sevenLines : List ℕ
 sevenLines = headLine ++ firstLine ++ secondLine ++ thirdLine ++ fourthLine ++ fifthLine ++ sixthLine
 
--- the stations that it names: 300 for permit 13, 100 for permit 15
-abbrev pub octoberNames : ℕ → ℕ → ℕ
-octoberNames month right = getD (0 ∷ 0 ∷ 300 ∷ 0 ∷ 100 ∷ []) right 0
-
 -- a sheet with 1,000,000,001 at row 1
 abbrev pub overMonths : List ℕ
 overMonths = 208 ∷ 7 ∷ 0 ∷ 0 ∷ 1 ∷ 202 ∷ 154 ∷ 59 ∷ 44 ∷ 1 ∷ 0 ∷ 0 ∷ []
@@ -59,12 +55,9 @@ pub record Listed : Type 0 where
   pub zero : decimalText 0 ≡ 48 ∷ []
   pub ten : decimalText 10 ≡ 49 ∷ 48 ∷ []
   pub fifteen-hundred : decimalText 1500 ≡ 49 ∷ 53 ∷ 48 ∷ 48 ∷ []
-  -- whatever stations are named among those that may be, since each of this October's grants leaves one
-  pub october : (names : ℕ → ℕ → ℕ) → ListingNames octoberFile octoberMonths names → listingOf octoberFile octoberMonths names ≡ sevenLines
-  -- and such there are
-  pub named : ListingNames octoberFile octoberMonths octoberNames
+  pub october : listingOf octoberFile octoberMonths ≡ sevenLines
   -- no months; a sheet without its last byte; a sheet over its limit; no basin, whatever the months
-  pub no-months : (names : ℕ → ℕ → ℕ) → listingOf octoberFile [] names ≡ headLine
-  pub cut-short : (names : ℕ → ℕ → ℕ) → listingOf octoberFile (take 11 octoberMonths) names ≡ headLine ++ refusedLine 6 0
-  pub over : (names : ℕ → ℕ → ℕ) → listingOf octoberFile overMonths names ≡ headLine ++ refusedLine 8 1
-  pub no-basin : (months : List ℕ) (names : ℕ → ℕ → ℕ) → listingOf [] months names ≡ headLine ++ refusedLine 1 0
+  pub no-months : listingOf octoberFile [] ≡ headLine
+  pub cut-short : listingOf octoberFile (take 11 octoberMonths) ≡ headLine ++ refusedLine 6 0
+  pub over : listingOf octoberFile overMonths ≡ headLine ++ refusedLine 8 1
+  pub no-basin : (months : List ℕ) → listingOf [] months ≡ headLine ++ refusedLine 1 0

@@ -15,7 +15,7 @@ use Rattle.records.specs.Records.{basinOf}
 use Rattle.boards.specs.Report.{reportOf}
 use Rattle.answers.specs.Answers.{fileRefusal, orElse, unless}
 use Rattle.fresh.specs.Fresh.{freshBoard}
-use Rattle.month.specs.Month.{runOf, boardAfter, NamesAllowed}
+use Rattle.month.specs.Month.{runOf, boardAfter}
 use Rattle.listing.specs.Listing.{monthText, refusalLine, header}
 
 -- ---- the file of months
@@ -46,34 +46,34 @@ pub record Step : Type 0 where
   pub more : Bool
 
 -- A sheet that is turned down ends the run with its refusal. Any other is a month: its lines are added, and the run stands one month on,
--- with the board that the month leaves. Of the stations that the rules let a report name, names gives the one named for each right.
-unfoldable pub sheetStep : Option Answer → Basin → Standing → List ℕ → (ℕ → ℕ) → Step
-sheetStep (some a) b s runoff names = record { text = refusalLine a; standing = s; more = false }
-sheetStep none b s runoff names =
+-- with the board that the month leaves.
+unfoldable pub sheetStep : Option Answer → Basin → Standing → List ℕ → Step
+sheetStep (some a) b s runoff = record { text = refusalLine a; standing = s; more = false }
+sheetStep none b s runoff =
     let after : List ℕ = boardAfter b runoff (s .board) in
     record {
-      text = monthText b (s .months) (reportOf b (runOf b runoff (s .board)) names []) after;
+      text = monthText b (s .months) (reportOf b (runOf b runoff (s .board)) []) after;
       standing = record { months = suc (s .months); board = after };
       more = true;
     }
 
 -- Where nothing is left of the file the run ends, and nothing is added.
-unfoldable pub stepOf : Basin → Standing → List ℕ → (ℕ → ℕ) → Step
-stepOf b s [] names = record { text = []; standing = s; more = false }
-stepOf b s (x ∷ part) names = sheetStep (partRefusal b (x ∷ part)) b s (sheetOf (rows b) (x ∷ part)) names
+unfoldable pub stepOf : Basin → Standing → List ℕ → Step
+stepOf b s [] = record { text = []; standing = s; more = false }
+stepOf b s (x ∷ part) = sheetStep (partRefusal b (x ∷ part)) b s (sheetOf (rows b) (x ∷ part))
 
 -- ---- part after part
 
 -- the step that the first part of what is left of the file makes
-unfoldable pub nextStep : Basin → Standing → List ℕ → (ℕ → ℕ) → Step
-nextStep b s rest names = stepOf b s (take (sheetBytes b) rest) names
+unfoldable pub nextStep : Basin → Standing → List ℕ → Step
+nextStep b s rest = stepOf b s (take (sheetBytes b) rest)
 
--- what the rest of a file adds; k is the most steps that are made, names 0 the stations named in the next month, names 1 in the one after it, ..
-unfoldable pub stepsText : ℕ → Basin → Standing → List ℕ → (ℕ → ℕ → ℕ) → List ℕ
-stepsText zero b s rest names = []
-stepsText (suc k) b s rest names =
-    let t : Step = nextStep b s rest (names 0) in
-    t .text ++ elim (t .more) [ true ↦ stepsText k b (t .standing) (drop (sheetBytes b) rest) (λ n. names (suc n)) | false ↦ [] ]
+-- what the rest of a file adds; k is the most steps that are made
+unfoldable pub stepsText : ℕ → Basin → Standing → List ℕ → List ℕ
+stepsText zero b s rest = []
+stepsText (suc k) b s rest =
+    let t : Step = nextStep b s rest in
+    t .text ++ elim (t .more) [ true ↦ stepsText k b (t .standing) (drop (sheetBytes b) rest) | false ↦ [] ]
 
 -- ---- the listing
 
@@ -82,37 +82,14 @@ unfoldable pub begin : Basin → Standing
 begin b = record { months = 0; board = freshBoard b }
 
 -- Each step but the last uses up some bytes, so that a file has at most one step more than bytes, and none is left out.
-unfoldable pub monthsText : Basin → List ℕ → (ℕ → ℕ → ℕ) → List ℕ
-monthsText b months names = stepsText (suc (length months)) b (begin b) months names
+unfoldable pub monthsText : Basin → List ℕ → List ℕ
+monthsText b months = stepsText (suc (length months)) b (begin b) months
 
 -- A basin that is turned down ends the listing with its refusal.
-unfoldable pub afterHeader : Option Answer → Basin → List ℕ → (ℕ → ℕ → ℕ) → List ℕ
-afterHeader (some a) b months names = refusalLine a
-afterHeader none b months names = monthsText b months names
+unfoldable pub afterHeader : Option Answer → Basin → List ℕ → List ℕ
+afterHeader (some a) b months = refusalLine a
+afterHeader none b months = monthsText b months
 
--- The listing: the header, then the basin's refusal or its months. names gives for each month and right the station that is named, which the
--- rules leave free among those of the grant (`NamesFit`).
-unfoldable pub listingOf : List ℕ → List ℕ → (ℕ → ℕ → ℕ) → List ℕ
-listingOf f months names = header ++ afterHeader (fileRefusal f) (basinOf f) months names
-
--- ---- the stations that may be named
-
--- in the month that a part makes, where it makes one
-abbrev pub PartNames : Basin → Standing → List ℕ → (ℕ → ℕ) → Type 0
-PartNames b s part names = NamesAllowed (partRefusal b part) b (runOf b (sheetOf (rows b) part) (s .board)) names
-
--- what is asked only where a run goes on
-abbrev pub IfMore : Bool → Type 0 → Type 0
-IfMore true T = T
-IfMore false T = Unit {0}
-
--- month by month
-abbrev pub NamesFit : ℕ → Basin → Standing → List ℕ → (ℕ → ℕ → ℕ) → Type 0
-NamesFit zero b s rest names = Unit {0}
-NamesFit (suc k) b s rest names =
-    PartNames b s (take (sheetBytes b) rest) (names 0)
-    × IfMore ((nextStep b s rest (names 0)) .more) (NamesFit k b ((nextStep b s rest (names 0)) .standing) (drop (sheetBytes b) rest) (λ n. names (suc n)))
-
--- of the whole listing
-abbrev pub ListingNames : List ℕ → List ℕ → (ℕ → ℕ → ℕ) → Type 0
-ListingNames f months names = NamesFit (suc (length months)) (basinOf f) (begin (basinOf f)) months names
+-- The listing: the header, then the basin's refusal or its months.
+unfoldable pub listingOf : List ℕ → List ℕ → List ℕ
+listingOf f months = header ++ afterHeader (fileRefusal f) (basinOf f) months

@@ -1,5 +1,5 @@
 -- The steps of a program that lists: what each promises, and that their texts, one after another, are the listing, however the months file is
--- cut into blocks when it is read. proofs/Steps, proofs/Blocks and proofs/Nameable prove it.
+-- cut into blocks when it is read. proofs/Steps and proofs/Blocks prove it.
 use mathlib.Core.Bool.{Bool, true, false}
 use mathlib.Core.List.{List, [], _∷_, _++_}
 use mathlib.Core.Option.{some}
@@ -13,16 +13,13 @@ use Rattle.filecheck.specs.Check.{checkOf}
 use Rattle.records.specs.Records.{basinOf}
 use Rattle.answers.specs.Answers.{fileRefusal}
 use Rattle.listing.specs.Listing.{refusalLine, header}
-use Rattle.listing.specs.Run.{sheetBytes, Standing, Step, stepOf, begin, listingOf, PartNames, ListingNames}
+use Rattle.listing.specs.Run.{sheetBytes, Standing, Step, stepOf, begin, listingOf}
 
 -- ---- one step
 
--- What a step promises: text, board, month count and whether the run goes on, as one equation. The rules leave it free only which of the
--- stations that may be named it names.
-pub record StepMeets (b : Basin) (s : Standing) (part : List ℕ) (o : Step) : Type 0 where
-  pub names : ℕ → ℕ
-  pub allowed : PartNames b s part names
-  pub equation : o ≡ stepOf b s part names
+-- What a step promises: text, board, month count and whether the run goes on, as one equation.
+abbrev pub StepMeets : Basin → Standing → List ℕ → Step → Type 0
+StepMeets b s part o = o ≡ stepOf b s part
 
 -- ---- step after step
 
@@ -82,12 +79,6 @@ stepsOf (c ∷ cs) = c .0 .steps ++ stepsOf cs
 
 -- ---- the listing
 
--- a text of the files f and months, for stations that may be named
-pub record IsListing (f months text : List ℕ) : Type 0 where
-  pub names : ℕ → ℕ → ℕ
-  pub allowed : ListingNames f months names
-  pub equation : text ≡ listingOf f months names
-
 -- where the run of an accepted file begins
 abbrev pub start : List ℕ → List ℕ → Place
 start f months = record { standing = begin (basinOf f); left = months; more = true }
@@ -95,17 +86,13 @@ start f months = record { standing = begin (basinOf f); left = months; more = tr
 -- Of an accepted file: the header and the texts of the steps, from the fresh board to where the run ends, are the listing.
 abbrev pub StepsList : Type 0
 StepsList = (f months : List ℕ) → checkOf f ≡ Accepted → (os : List Step) (to : Place) → Walk (basinOf f) true (start f months) os to → to .more ≡ false
-    → IsListing f months (header ++ textsOf os)
+    → header ++ textsOf os ≡ listingOf f months
 
 -- The same of the calls of a program that reads in blocks, whatever their lengths.
 abbrev pub CallsList : Type 0
 CallsList = (f months : List ℕ) → checkOf f ≡ Accepted → (cs : List (Call × List ℕ)) (to : Place) → Calls (basinOf f) (start f months) cs to → to .more ≡ false
-    → IsListing f months (header ++ textsOf (stepsOf cs))
-
--- There is one: of an accepted file and any months, with stations that may be named.
-abbrev pub HasListing : Type 0
-HasListing = (f months : List ℕ) → checkOf f ≡ Accepted → (text : List ℕ) × IsListing f months text
+    → header ++ textsOf (stepsOf cs) ≡ listingOf f months
 
 -- Of a file that is turned down: the header and the refusal are.
 abbrev pub RefusalLists : Type 0
-RefusalLists = (f months : List ℕ) (a : Answer) → fileRefusal f ≡ some a → (names : ℕ → ℕ → ℕ) → header ++ refusalLine a ≡ listingOf f months names
+RefusalLists = (f months : List ℕ) (a : Answer) → fileRefusal f ≡ some a → header ++ refusalLine a ≡ listingOf f months

@@ -1,5 +1,5 @@
 -- Month after month of an accepted file: what one leaves is what the next asks for. Assumes nothing.
-use mathlib.Core.Path.{_≡_, sym, ap, _∙_, subst}
+use mathlib.Core.Path.{_≡_, sym, ap, _∙_}
 use mathlib.Core.Bool.{true}
 use mathlib.Core.List.{List}
 use mathlib.Core.Option.{Option, none, some}
@@ -18,8 +18,8 @@ use Rattle.rules.specs.Tally.{overLimit, overAnswer}
 use Rattle.boards.specs.Board.{possible}
 use Rattle.records.specs.Records.{bodies}
 use Rattle.answers.specs.Answers.{settled}
-use Rattle.places.specs.Report.{evaporationPlace, nameIn}
-use Rattle.month.specs.Month.{runOf, Outcome, monthSettled, NamesAllowed}
+use Rattle.places.specs.Report.{evaporationPlace}
+use Rattle.month.specs.Month.{runOf, Outcome, monthSettled}
 use Rattle.month.specs.Run.{CanRun, Ran, CanRunSheet, SheetRan}
 use Rattle.answers.proofs.Answers.{settled-some}
 use Rattle.month.proofs.After.{after-possible}
@@ -32,14 +32,9 @@ module _ (st rs ps ri runoff bd rp : List ℕ) (c : CanRunSheet st rs ps ri runo
   abbrev b : Basin
   b = bodies st rs ps ri
 
-  turned-down : (a : Answer) → overAnswer (overLimit runoff) ≡ some a → monthSettled (overAnswer (overLimit runoff)) b runoff bd rp (nameIn rp) ≡ record { answer = a; board = bd; report = rp }
-  unfolding monthSettled
-  turned-down a s = rw s
-
   pub stays : (a : Answer) → a ≡ settled (overAnswer (overLimit runoff)) → (a .number ≡ 0 → ⊥) → SheetRan b runoff bd rp (record { answer = a; board = bd; report = rp })
-  stays a e n =
-      let s : overAnswer (overLimit runoff) ≡ some a = settled-some (overAnswer (overLimit runoff)) a e n in
-      record { equation = sym (turned-down a s); names = subst (λ (o : Option Answer). NamesAllowed o b (runOf b runoff bd) (nameIn rp)) (sym s) tt }
+  unfolding monthSettled
+  stays a e n = sym (rw (settled-some (overAnswer (overLimit runoff)) a e n))
 
   module _ (a : Answer) (e : a ≡ settled (overAnswer (overLimit runoff))) (n : a .number ≡ 0) where
     none-over : overLimit runoff ≡ none
@@ -53,23 +48,20 @@ module _ (st rs ps ri runoff bd rp : List ℕ) (c : CanRunSheet st rs ps ri runo
     clear = rw none-over
 
     module _ (bd′ rp′ : List ℕ) (k : ℕ) (r : Ran b runoff bd rp bd′ rp′ k) where
-      run-is : monthSettled (overAnswer (overLimit runoff)) b runoff bd rp (nameIn rp′) ≡ record { answer = record { number = 0; place = k }; board = bd′; report = rp′ }
-      unfolding monthSettled
-      run-is = rw clear (λ z. record { answer = record { number = 0; place = sym (r .shorts) z }; board = sym (r .board) z; report = sym (r .report) z })
-
       pub goes : SheetRan b runoff bd rp (record { answer = record { number = 0; place = k }; board = bd′; report = rp′ })
-      goes = record { equation = sym run-is; names = subst (λ (o : Option Answer). NamesAllowed o b (runOf b runoff bd) (nameIn rp′)) (sym clear) (r .names) }
+      unfolding monthSettled
+      goes = rw clear (λ z. record { answer = record { number = 0; place = r .shorts z }; board = r .board z; report = r .report z })
 
 -- ---- what stands on the board after it
 
-board-kept : (b : Basin) → Accepted b → (runoff bd rp : List ℕ) → possible b bd ≡ true → (v : Option Answer) (names : ℕ → ℕ) → possible b ((monthSettled v b runoff bd rp names) .board) ≡ true
+board-kept : (b : Basin) → Accepted b → (runoff bd rp : List ℕ) → possible b bd ≡ true → (v : Option Answer) → possible b ((monthSettled v b runoff bd rp) .board) ≡ true
 unfolding monthSettled
-board-kept b acc runoff bd rp can none names = after-possible b acc bd can runoff
-board-kept b acc runoff bd rp can (some a) names = can
+board-kept b acc runoff bd rp can none = after-possible b acc bd can runoff
+board-kept b acc runoff bd rp can (some a) = can
 
 -- refused or not, the board is possible
 pub still-possible : (b : Basin) → Accepted b → (runoff bd rp : List ℕ) → possible b bd ≡ true → (o : Outcome) → SheetRan b runoff bd rp o → possible b (o .board) ≡ true
-still-possible b acc runoff bd rp can o w = ap (λ (x : Outcome). possible b (x .board)) (w .equation) ∙ board-kept b acc runoff bd rp can (overAnswer (overLimit runoff)) (nameIn (o .report))
+still-possible b acc runoff bd rp can o w = ap (λ (x : Outcome). possible b (x .board)) w ∙ board-kept b acc runoff bd rp can (overAnswer (overLimit runoff))
 
 -- ---- what evaporates is at most the largest area under the largest depth
 
@@ -92,13 +84,13 @@ unfolding runOf month
 run-losses b acc runoff bd v h = losses-most b acc _ _ v h
 
 -- of an accepted month the report tells them
-told-losses : (b : Basin) → Accepted b → (runoff bd rp : List ℕ) (o : Option ℕ) (names : ℕ → ℕ) → ((monthSettled (overAnswer o) b runoff bd rp names) .answer) .number ≡ 0
-    → (v : ℕ) → v < length (b .reservoirs) → getD ((monthSettled (overAnswer o) b runoff bd rp names) .report) (evaporationPlace (length (b .rights)) (rows b) v) 0 ≤ 2_000_000_000
+told-losses : (b : Basin) → Accepted b → (runoff bd rp : List ℕ) (o : Option ℕ) → ((monthSettled (overAnswer o) b runoff bd rp) .answer) .number ≡ 0
+    → (v : ℕ) → v < length (b .reservoirs) → getD ((monthSettled (overAnswer o) b runoff bd rp) .report) (evaporationPlace (length (b .rights)) (rows b) v) 0 ≤ 2_000_000_000
 unfolding monthSettled overAnswer
-told-losses b acc runoff bd rp none names e v h = omega (arith, evaporation-place b (runOf b runoff bd) names rp v h, run-losses b acc runoff bd v h)
-told-losses b acc runoff bd rp (some i) names e v h = absurd (omega (arith, e))
+told-losses b acc runoff bd rp none e v h = omega (arith, evaporation-place b (runOf b runoff bd) rp v h, run-losses b acc runoff bd v h)
+told-losses b acc runoff bd rp (some i) e v h = absurd (omega (arith, e))
 
 pub losses-told : (b : Basin) → Accepted b → (runoff bd rp : List ℕ) (o : Outcome) → SheetRan b runoff bd rp o → (o .answer) .number ≡ 0 → (v : ℕ) → v < length (b .reservoirs) → getD (o .report) (evaporationPlace (length (b .rights)) (rows b) v) 0 ≤ 2_000_000_000
 losses-told b acc runoff bd rp o w e v h =
-    let t = told-losses b acc runoff bd rp (overLimit runoff) (nameIn (o .report)) (ap (λ (x : Outcome). (x .answer) .number) (sym (w .equation)) ∙ e) v h in
-    omega (arith, t, ap (λ (x : Outcome). getD (x .report) (evaporationPlace (length (b .rights)) (rows b) v) 0) (w .equation))
+    let t = told-losses b acc runoff bd rp (overLimit runoff) (ap (λ (x : Outcome). (x .answer) .number) (sym w) ∙ e) v h in
+    omega (arith, t, ap (λ (x : Outcome). getD (x .report) (evaporationPlace (length (b .rights)) (rows b) v) 0) w)

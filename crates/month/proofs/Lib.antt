@@ -5,4 +5,3 @@ pub mod Reporting
 pub mod After
 pub mod Running
 pub mod Going
-pub mod Names

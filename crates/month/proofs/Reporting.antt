@@ -1,18 +1,17 @@
 -- The report that a month leaves, place by place. Assumes nothing.
 use mathlib.Core.Bool.{Bool, true}
 use mathlib.Core.List.{List}
-use mathlib.Core.Path.{_≡_, refl, sym, ap, _∙_, subst}
+use mathlib.Core.Path.{_≡_, sym, ap, _∙_, subst}
 use Prim.Native.Nat.{ℕ, _≤_, _<_}
 use native.Mathlib.Omega.{arith}
 use lib.ListN.{length, getD}
 use lib.IntN.{natAbs}
 use Rattle.general.specs.Tables.{tab}
-use Rattle.general.specs.Tests.{has}
 use Rattle.general.proofs.Tables.{tab-at}
 use Rattle.rules.specs.Basin.{Basin, rows}
 use Rattle.rules.specs.River.{Level, levelAt, dry}
 use Rattle.rules.specs.Turn.{State, Turn}
-use Rattle.rules.specs.Month.{MonthRun, opening, shortCount, grantAt}
+use Rattle.rules.specs.Month.{MonthRun, opening, shortCount}
 use Rattle.rules.specs.Tally.{reportLength}
 use Rattle.records.specs.Records.{reservoirCount}
 use Rattle.river.specs.Arrays.{rowLevel, levelsOf}
@@ -25,7 +24,7 @@ use Rattle.places.specs.Board.{monthAt, dueAt}
 use Rattle.boards.specs.Board.{carriedOf, possible}
 use Rattle.boards.specs.Report.{reportOf}
 use Rattle.boards.proofs.Report.{report-by-parts}
-use Rattle.places.specs.Report.{fromRiverPlace, fromStoragePlace, reasonPlace, stationPlace, linesEnd, flowPlace, availablePlace, rowsEnd, evaporationPlace, nameIn}
+use Rattle.places.specs.Report.{fromRiverPlace, fromStoragePlace, reasonPlace, stationPlace, linesEnd, flowPlace, availablePlace, rowsEnd, evaporationPlace}
 use Rattle.month.specs.Month.{runOf}
 use Rattle.closing.specs.Closing.{RowsTold}
 use Rattle.month.proofs.Opened.{opened}
@@ -66,21 +65,18 @@ module _ (b : Basin) (st t rs : List ℕ) (pa : List (List ℕ)) (ri : List ℕ)
   beyond-kept : (p : ℕ) → reportLength b ≤ p → getD rp₃ p 0 ≡ getD rp p 0
   beyond-kept p o = l .report-kept p (omega (arith, o, reservoirs-count w)) ∙ r .beyond p (omega (arith, o)) ∙ lines .beyond p (omega (arith, o))
 
-  pub report-left : rp₃ ≡ reportOf b h (nameIn rp₃) rp
-  report-left = report-by-parts b h (nameIn rp₃) rp room rp₃ (record {
+  pub report-left : rp₃ ≡ reportOf b h rp
+  report-left = report-by-parts b h rp room rp₃ (record {
     size = l .report-size ∙ r .size ∙ lines .size;
     river = λ i o. front (fromRiverPlace i) (omega (arith, o)) ∙ lines .from-river i o;
     storage = λ i o. front (fromStoragePlace i) (omega (arith, o)) ∙ lines .from-storage i o;
     reason = λ i o. front (reasonPlace i) (omega (arith, o)) ∙ lines .reason i o;
-    name = λ i o. refl;
+    station = λ i o. front (stationPlace i) (omega (arith, o)) ∙ lines .station i o;
     flow = flow-told;
     available = available-told;
     losses = loss-told;
     beyond = beyond-kept;
   })
-
-  pub names-left : (i : ℕ) → i < n → has (nameIn rp₃ i) ((grantAt (h .turns) i) .stations) ≡ true
-  names-left i o = ap (λ (x : ℕ). has x ((grantAt (h .turns) i) .stations)) (front (stationPlace i) (omega (arith, o))) ∙ lines .station i o
 
   pub shorts-left : c .shorts ≡ shortCount (h .turns)
   shorts-left = q .shorts ∙ ap shortCount (turns-are b st t rs pa ri w runoff bd can f a sh start m em rp f₂ a₂ sh₂ bd₂ rp₁ c q)

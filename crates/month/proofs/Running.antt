@@ -35,7 +35,7 @@ use Rattle.boards.proofs.Bodies.{marks-small}
 use Rattle.month.proofs.Opened.{opened, opened-length, opened-month, opened-storage, opened-word, opened-taken, opened-due, state-opened}
 use Rattle.boards.proofs.Bounds.{month-most, storage-most, marks-most, taken-most, due-most, no-due, capacity-most, limit-most}
 use Rattle.month.proofs.Closing.{board-left}
-use Rattle.month.proofs.Reporting.{report-left, names-left, shorts-left}
+use Rattle.month.proofs.Reporting.{report-left, shorts-left}
 
 -- the patterns of the file are the first of the sixteen
 sixteen : (ps : List ℕ) (k : ℕ) → k < length (patternsOf ps) → getD (patternsOf ps) k [] ≡ getD (sixteenPatterns ps) k []
@@ -210,6 +210,5 @@ module _ (st rs ps ri runoff bd rp : List ℕ) (c : CanRun st rs ps ri runoff bd
           record {
             board = board-left b st t rs pa ri setting runoff bd (c .can) f a sh start m month-is rp f₂ a₂ sh₂ bd₂ rp₁ k q (z .told) at (z .lowered) rp₃ l bd₄ (z .gone-on ∙ ap (λ (y : ℕ). set (z .lowered) monthPlace (nextMonth y)) month₂);
             report = report-left b st t rs pa ri setting runoff bd (c .can) f a sh start m month-is rp f₂ a₂ sh₂ bd₂ rp₁ k q (c .room) (z .told) (z .rows-told) (z .lowered) rp₃ l;
-            names = names-left b st t rs pa ri setting runoff bd (c .can) f a sh start m month-is rp f₂ a₂ sh₂ bd₂ rp₁ k q (c .room) (z .told) (z .rows-told) (z .lowered) rp₃ l;
             shorts = shorts-left b st t rs pa ri setting runoff bd (c .can) f a sh start m month-is rp f₂ a₂ sh₂ bd₂ rp₁ k q (c .room) (z .told) (z .rows-told) (z .lowered) rp₃ l;
           }

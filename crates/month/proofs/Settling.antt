@@ -18,14 +18,14 @@ use Rattle.sections.specs.File.{sectionOf}
 use Rattle.records.specs.Records.{rowsOf, reservoirCount, rightCount, basinOf, bodies}
 use Rattle.filecheck.proofs.Accepted.{accepted-facts}
 use Rattle.records.proofs.Rows.{rows-are}
-use Rattle.places.specs.Report.{nameIn, reportEnd}
+use Rattle.places.specs.Report.{reportEnd}
 use Rattle.records.proofs.Decoded.{basin-bodies, reservoirs-are, rights-are}
 use Rattle.places.specs.Board.{boardLength}
 use Rattle.rules.specs.Answers.{Answer, told}
 use Rattle.rules.specs.Tally.{mostRunoff, reportLength, listsFit, overLimit, overAnswer}
 use Rattle.answers.specs.Answers.{accepted, orElse, lentRefusal, settled}
 use Rattle.answers.proofs.Answers.{settled-some, Clear, lent-none}
-use Rattle.month.specs.Month.{allFit, monthRefusal, runOf, Outcome, monthSettled, monthOf, NamesAllowed, MonthMeets}
+use Rattle.month.specs.Month.{allFit, monthRefusal, Outcome, monthSettled, monthOf, MonthMeets}
 use Rattle.month.specs.Run.{CanRunSheet, SheetRan}
 
 -- ---- the lists, by the bodies
@@ -107,14 +107,9 @@ module _ (f runoff board report : List ℕ) where
   unfolding monthRefusal
   refused-first a e n = first-stays lent (overAnswer (overLimit runoff)) a (settled-some lent a e n)
 
-  refused-is : (a : Answer) → monthRefusal f runoff board report ≡ some a → monthOf f runoff board report (nameIn report) ≡ record { answer = a; board = board; report = report }
-  unfolding monthOf monthSettled
-  refused-is a s = rw s
-
   pub month-refused : (a : Answer) → a ≡ settled lent → (a .number ≡ 0 → ⊥) → MonthMeets f runoff board report (record { answer = a; board = board; report = report })
-  month-refused a e n =
-      let s = refused-first a e n in
-      record { equation = sym (refused-is a s); names = subst (λ (o : Option Answer). NamesAllowed o (basinOf f) (runOf (basinOf f) runoff board) (nameIn report)) (sym s) tt }
+  unfolding monthOf monthSettled
+  month-refused a e n = sym (rw (refused-first a e n))
 
   -- only the runoff is left to look at
   module _ (k : Clear f fits board) where
@@ -128,10 +123,7 @@ module _ (f runoff board report : List ℕ) where
 
     went : (o : Outcome) → SheetRan (basinOf f) runoff board report o → MonthMeets f runoff board report o
     unfolding monthOf
-    went o w = record {
-      equation = w .equation ∙ ap (λ (v : Option Answer). monthSettled v (basinOf f) runoff board report (nameIn (o .report))) (sym rest);
-      names = subst (λ (v : Option Answer). NamesAllowed v (basinOf f) (runOf (basinOf f) runoff board) (nameIn (o .report))) (sym rest) (w .names);
-    }
+    went o w = w ∙ ap (λ (v : Option Answer). monthSettled v (basinOf f) runoff board report) (sym rest)
 
     -- at the parts of the file as the code has them
     module _ {st rs ps ri : List ℕ} (e₀ : st ≡ sectionOf f 0) (e₁ : rs ≡ sectionOf f 1) (e₂ : ps ≡ sectionOf f 2) (e₃ : ri ≡ sectionOf f 3) where

@@ -1,19 +1,18 @@
 -- The call month, for every file and all lists, refusals included (01, "The board and one month").
 use mathlib.Core.Path.{_≡_}
-use mathlib.Core.Bool.{Bool, true}
+use mathlib.Core.Bool.{Bool}
 use mathlib.Core.List.{List}
 use mathlib.Core.Option.{Option, none, some}
-use Prim.Native.Nat.{ℕ, suc, _+_, _<_}
+use Prim.Native.Nat.{ℕ, suc, _+_}
 use lib.Dec.{ltb}
 use lib.ListN.{length}
 use Rattle.general.specs.Sums.{only}
 use Rattle.general.specs.Tables.{tab}
-use Rattle.general.specs.Tests.{_and_, has}
+use Rattle.general.specs.Tests.{_and_}
 use Rattle.places.specs.Board.{dueAt}
-use Rattle.places.specs.Report.{nameIn}
 use Rattle.rules.specs.Answers.{Answer}
 use Rattle.rules.specs.Basin.{Basin, rows}
-use Rattle.rules.specs.Month.{grantAt, returnsAt, MonthRun, month, shortCount}
+use Rattle.rules.specs.Month.{returnsAt, MonthRun, month, shortCount}
 use Rattle.rules.specs.Tally.{Call, listsFit, overLimit, overAnswer}
 use Rattle.records.specs.Records.{basinOf}
 use Rattle.boards.specs.Board.{carriedOf, boardOf, boardFits}
@@ -53,28 +52,22 @@ pub record Outcome : Type 0 where
   pub board : List ℕ
   pub report : List ℕ
 
-unfoldable pub monthSettled : Option Answer → Basin → List ℕ → List ℕ → List ℕ → (ℕ → ℕ) → Outcome
-monthSettled none b runoff board report names = record {
+unfoldable pub monthSettled : Option Answer → Basin → List ℕ → List ℕ → List ℕ → Outcome
+monthSettled none b runoff board report = record {
   answer = record { number = 0; place = shortCount ((runOf b runoff board) .turns) };
   board = boardAfter b runoff board;
-  report = reportOf b (runOf b runoff board) names report;
+  report = reportOf b (runOf b runoff board) report;
 }
-monthSettled (some a) b runoff board report names = record { answer = a; board = board; report = report }
+monthSettled (some a) b runoff board report = record { answer = a; board = board; report = report }
 
-unfoldable pub monthOf : List ℕ → List ℕ → List ℕ → List ℕ → (ℕ → ℕ) → Outcome
-monthOf f runoff board report names = monthSettled (monthRefusal f runoff board report) (basinOf f) runoff board report names
+unfoldable pub monthOf : List ℕ → List ℕ → List ℕ → List ℕ → Outcome
+monthOf f runoff board report = monthSettled (monthRefusal f runoff board report) (basinOf f) runoff board report
 
 -- ---- the month's contract
 
--- of an accepted month each station named is one that may be named
-abbrev pub NamesAllowed : Option Answer → Basin → MonthRun → (ℕ → ℕ) → Type 0
-NamesAllowed none b h names = (i : ℕ) → i < length (b .rights) → has (names i) ((grantAt (h .turns) i) .stations) ≡ true
-NamesAllowed (some a) b h names = Unit {0}
-
--- What month promises: one equation for answer, board and report, and the one relation that 01 leaves open. The names are those of the report that it leaves.
-pub record MonthMeets (f runoff board report : List ℕ) (outcome : Outcome) : Type 0 where
-  pub equation : outcome ≡ monthOf f runoff board report (nameIn (outcome .report))
-  pub names : NamesAllowed (monthRefusal f runoff board report) (basinOf f) (runOf (basinOf f) runoff board) (nameIn (outcome .report))
+-- What month promises: answer, board and report, as one equation.
+abbrev pub MonthMeets : List ℕ → List ℕ → List ℕ → List ℕ → Outcome → Type 0
+MonthMeets f runoff board report outcome = outcome ≡ monthOf f runoff board report
 
 -- the outcome as the call gives it
 abbrev pub outcomeOf : Given → List ℕ → List ℕ → Outcome

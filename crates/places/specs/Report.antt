@@ -1,14 +1,12 @@
 -- The places of a report (01, "The board and one month"): the lines of the rights, then the rows, then the evaporations. Everything else names a number
 -- of a report by these words. A basin of n rights, h rows and v reservoirs.
 use mathlib.Core.Bool.{cond}
-use mathlib.Core.List.{List}
 use Prim.Native.Nat.{ℕ, _+_, _-_, _*_, _/_, _%_}
 use lib.Dec.{ltb}
-use lib.ListN.{getD}
 
 -- ---- places
 
--- the four numbers of right i: what it is granted from the river and from storage, the reason's number, the station named
+-- the four numbers of right i: what it is granted from the river and from storage, the reason's number, the station that holds it back
 abbrev pub fromRiverPlace : ℕ → ℕ
 fromRiverPlace i = 4 * i
 
@@ -45,12 +43,6 @@ reportEnd n h v = evaporationPlace n h v
 -- the most that any basin has to tell
 abbrev pub mostReport : ℕ
 mostReport = 1160
-
--- ---- read off a report
-
--- the station named for right i
-abbrev pub nameIn : List ℕ → ℕ → ℕ
-nameIn report i = getD report (stationPlace i) 0
 
 -- ---- a report made of its parts
 

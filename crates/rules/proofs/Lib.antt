@@ -10,7 +10,7 @@ pub mod Resumed
 pub mod Sums
 pub mod Bounds
 pub mod Possible
-pub mod Names
+pub mod Tight
 pub mod October
 pub mod Theorems
 pub mod Marked

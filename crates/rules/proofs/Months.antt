@@ -204,7 +204,3 @@ month-ok b acc c n runoff arriving =
       storages = evaporated-length b (c .m) (e .storages);
       water = omega (arith, rw (opening-last b con runoff arriving) at (o .balance), evaporated-sum b (c .m) (e .storages) (o .good .storages));
     }
-
-pub month-length : (b : Basin) (c : Carried) (runoff arriving : List ℕ) → length ((month b c runoff arriving) .turns) ≡ length (b .rights)
-unfolding month
-month-length b c runoff arriving = turns-length b (c .m) 0 (b .rights) (opening b c runoff arriving)

@@ -8,7 +8,7 @@ use Prim.Native.Nat.{ℕ, suc, _+_, _-_}
 use lib.ListN.{length, getD, replicate}
 use lib.IntN.{pos}
 use Rattle.general.specs.Tables.{tab}
-use Rattle.rules.specs.Basin.{Station, Survey, Reservoir, Kind, direct, project, Right, Basin}
+use Rattle.rules.specs.Basin.{Station, Survey, Reservoir, Kind, direct, project, instream, Right, Basin}
 use Rattle.rules.specs.Path.{rowBelow, path}
 use Rattle.rules.specs.River.{Level}
 use Rattle.rules.specs.Returns.{consumedAt, shares}
@@ -33,11 +33,11 @@ pub record Marked : Type 0 where
   -- this October: 0 and two rights short
   pub october-answer : answers october (fresh october) (octoberCall ∷ []) ≡ record { number = 0; place = 2 } ∷ []
   pub october-grants : grantsOf (octoberRun .turns) ≡
-      record { fromRiver = 1500; fromStorage = 0; reason = met; stations = 0 ∷ [] }
-      ∷ record { fromRiver = 1201; fromStorage = 0; reason = met; stations = 0 ∷ [] }
-      ∷ record { fromRiver = 701; fromStorage = 0; reason = riverLow; stations = 300 ∷ [] }
-      ∷ record { fromRiver = 0; fromStorage = 600; reason = met; stations = 0 ∷ [] }
-      ∷ record { fromRiver = 0; fromStorage = 0; reason = calledOut; stations = 100 ∷ [] }
+      record { fromRiver = 1500; fromStorage = 0; reason = met; station = 0 }
+      ∷ record { fromRiver = 1201; fromStorage = 0; reason = met; station = 0 }
+      ∷ record { fromRiver = 701; fromStorage = 0; reason = riverLow; station = 300 }
+      ∷ record { fromRiver = 0; fromStorage = 600; reason = met; station = 0 }
+      ∷ record { fromRiver = 0; fromStorage = 0; reason = calledOut; station = 100 }
       ∷ []
   pub october-levels : (octoberRun .closed) .levels ≡ level 1899 1299 ∷ level 798 798 ∷ level 0 0 ∷ []
   pub october-evaporation : octoberRun .evaporation ≡ 75 ∷ []
@@ -100,6 +100,23 @@ calledBasin = record {
   rights = plainRight 1 18900101 direct 1 255 150 ∷ returningRight 2 18910101 project 0 0 50 0 0 ∷ plainRight 3 18920101 direct 0 255 10 ∷ [];
 }
 
+-- Rights at rows 2, 0, 3, 2, 1 and, instream, 0. The first two leave nothing from row 2 on. The third is short at row 3 and calls the fourth and fifth; the
+-- fourth, short at row 2, calls the fifth too.
+abbrev pub tightBasin : Basin
+tightBasin = record {
+  stations = branchedStations;
+  reservoirs = [];
+  patterns = [];
+  rights =
+      plainRight 1 18900101 direct 2 255 10
+      ∷ plainRight 2 18910101 direct 0 255 15
+      ∷ plainRight 3 18920101 direct 3 255 5
+      ∷ plainRight 4 18930101 direct 2 255 5
+      ∷ plainRight 5 18940101 direct 1 255 5
+      ∷ plainRight 6 18950101 instream 0 255 12
+      ∷ [];
+}
+
 -- A project right asks for more than the storage holds.
 abbrev pub drawnBasin : Basin
 drawnBasin = record {
@@ -158,13 +175,22 @@ pub record Told : Type 0 where
   pub path-by-order : path branchedStations 0 ≡ 0 ∷ 2 ∷ 3 ∷ []
   -- a called right gets no river part, though 50 pass
   pub called-gets-none : grantsIn calledBasin [] (sheet 100 0) ≡
-      record { fromRiver = 100; fromStorage = 0; reason = riverLow; stations = 200 ∷ [] }
-      ∷ record { fromRiver = 0; fromStorage = 50; reason = met; stations = 0 ∷ [] }
-      ∷ record { fromRiver = 0; fromStorage = 0; reason = calledOut; stations = 200 ∷ [] }
+      record { fromRiver = 100; fromStorage = 0; reason = riverLow; station = 200 }
+      ∷ record { fromRiver = 0; fromStorage = 50; reason = met; station = 0 }
+      ∷ record { fromRiver = 0; fromStorage = 0; reason = calledOut; station = 200 }
       ∷ []
   pub called-leaves : (nextRun calledBasin (fresh calledBasin) (sheet 100 0)) .closed .levels ≡ level 150 150 ∷ level 50 50 ∷ []
+  -- the first tight spot downstream: the second right finds rows 2 and 3 lowest, the fifth finds both short; the fourth's own shortage does not count for it
+  pub first-tight : grantsIn tightBasin [] (record { runoff = 20 ∷ 0 ∷ 0 ∷ 0 ∷ []; report = 32 }) ≡
+      record { fromRiver = 10; fromStorage = 0; reason = met; station = 0 }
+      ∷ record { fromRiver = 10; fromStorage = 0; reason = riverLow; station = 30 }
+      ∷ record { fromRiver = 0; fromStorage = 0; reason = riverLow; station = 40 }
+      ∷ record { fromRiver = 0; fromStorage = 0; reason = calledOut; station = 40 }
+      ∷ record { fromRiver = 0; fromStorage = 0; reason = calledOut; station = 30 }
+      ∷ record { fromRiver = 10; fromStorage = 0; reason = riverLow; station = 10 }
+      ∷ []
   -- a draw ends with the storage
-  pub draw-ends : grantsIn drawnBasin [] (sheet 0 0) ≡ record { fromRiver = 0; fromStorage = 100; reason = storageOut; stations = 100 ∷ [] } ∷ []
+  pub draw-ends : grantsIn drawnBasin [] (sheet 0 0) ≡ record { fromRiver = 0; fromStorage = 100; reason = storageOut; station = 100 } ∷ []
   -- evaporation ends with the storage
   pub evaporation-ends : (nextRun shallowBasin (fresh shallowBasin) (sheet 0 0)) .evaporation ≡ 30 ∷ []
   -- areas that fall: floored is the distance from the lower pair's area; above the last pair the last area holds
@@ -173,7 +199,7 @@ pub record Told : Type 0 where
   pub widest-table : areaAt widestLake 1 ∷ areaAt widestLake 2 ∷ areaAt widestLake 2_000_000_000 ∷ [] ≡ 0 ∷ 1_000_000 ∷ 534_339 ∷ []
   -- one fill a year: the mark stands after a release
   pub filled-once : grantsIn filledBasin (sheet 100 0 ∷ []) (sheet 100 0) ≡
-      record { fromRiver = 0; fromStorage = 0; reason = met; stations = 0 ∷ [] } ∷ record { fromRiver = 30; fromStorage = 0; reason = met; stations = 0 ∷ [] } ∷ []
+      record { fromRiver = 0; fromStorage = 0; reason = met; station = 0 } ∷ record { fromRiver = 30; fromStorage = 0; reason = met; station = 0 } ∷ []
   pub filled-mark : (afterCalls filledBasin (fresh filledBasin) (sheet 100 0 ∷ [])) .carried ≡ record { m = 1; storages = 70 ∷ []; marks = true ∷ []; taken = 100 ∷ 0 ∷ [] }
   -- October clears marks and taken
   pub october-clears-marks : secondOctober .marks ≡ false ∷ []

@@ -57,7 +57,7 @@ grantsOf ts = map (λ (t : Turn). t .grant) ts
 
 -- the grant of right i, and what stands past the last
 abbrev pub noGrant : Grant
-noGrant = record { fromRiver = 0; fromStorage = 0; reason = met; stations = [] }
+noGrant = record { fromRiver = 0; fromStorage = 0; reason = met; station = 0 }
 
 abbrev pub grantAt : List Turn → ℕ → Grant
 grantAt ts i = getD (grantsOf ts) i noGrant

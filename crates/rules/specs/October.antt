@@ -8,7 +8,7 @@ use Rattle.rules.specs.Tally.{Call}
 abbrev pub allMonths : ℕ
 allMonths = 4095
 
--- a right of kind 1 or 2 without return points, with one amount in all months
+-- a right of kind 1, 2 or 3 without return points, with one amount in all months
 abbrev pub plainRight : ℕ → ℕ → Kind → ℕ → ℕ → ℕ → Right
 plainRight permit date k row reservoir amount = record {
   permit = permit;

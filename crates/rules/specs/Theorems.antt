@@ -1,6 +1,6 @@
 -- What is proved of the rules, each statement on its own. The proofs stand in proofs/Theorems.antt under the same names, in small letters.
 use mathlib.Core.Path.{_≡_}
-use mathlib.Core.Bool.{false}
+use mathlib.Core.Bool.{Bool, true, false}
 use mathlib.Core.List.{List, [], _∷_, _++_, map}
 use Prim.Native.Nat.{ℕ, suc, _+_, _-_, _*_, _≤_, _<_, min, max}
 use lib.ListN.{length, getD}
@@ -12,7 +12,7 @@ use Rattle.rules.specs.Basin.{Survey, Reservoir, Right, Basin, rows, sur
 use Rattle.rules.specs.Path.{path, untilRow, lastRow}
 use Rattle.rules.specs.River.{availableAt, lower, lowest, lesser}
 use Rattle.rules.specs.Returns.{shares}
-use Rattle.rules.specs.Turn.{State, pathOf}
+use Rattle.rules.specs.Turn.{State, pathOf, called, isShortAt, firstShort, isLowest, firstLowest}
 use Rattle.rules.specs.Month.{returnsAt, onLine, areaAt, MonthRun, month}
 use Rattle.rules.specs.Tally.{Call, Start, freshStart, Tally, begun, standing, afterCalls, pending}
 use Rattle.rules.specs.Water.{startingStorage, startingDues, Checkpoint, MonthSound, WaterKept}
@@ -34,6 +34,22 @@ pub record PathFacts (b : Basin) (r : ℕ) : Type 0 where
 
 abbrev pub Paths : Type 0
 Paths = (b : Basin) → Connected b → (r : ℕ) → r < rows b → PathFacts b r
+
+-- ---- the tight spot that holds a right back
+
+-- Row q is the first of a path to pass a test: it is on the path and passes, and none above it does.
+pub record IsFirst (t : ℕ → Bool) (p : List ℕ) (q : ℕ) : Type 0 where
+  pub on : has q p ≡ true
+  pub passes : t q ≡ true
+  pub none-above : (k : ℕ) → has k (untilRow q p) ≡ true → t k ≡ false
+
+-- In any state there is such a row for reason 1, if the right is called out, and for reason 2; it is the one whose station is named.
+pub record TightSpot (b : Basin) (r : Right) (s : State) : Type 0 where
+  pub called-out : called b r s ≡ true → IsFirst (isShortAt s) (pathOf b r) (firstShort s (pathOf b r))
+  pub river-low : IsFirst (isLowest s (pathOf b r)) (pathOf b r) (firstLowest s (pathOf b r))
+
+abbrev pub TightSpots : Type 0
+TightSpots = (b : Basin) (r : Right) → r .row < rows b → (s : State) → TightSpot b r s
 
 -- ---- the area of a lake, by any area-capacity table whose storages rise
 

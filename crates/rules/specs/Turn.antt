@@ -1,6 +1,6 @@
 -- The turn of one right in a month (01, "The board and one month", step 3), in three stages: its river part, its part from storage, its returns.
 use mathlib.Core.Bool.{Bool, true, false, not, cond, _&&_, _||_}
-use mathlib.Core.List.{List, [], _∷_, map}
+use mathlib.Core.List.{List, [], _∷_}
 use Prim.Native.Nat.{ℕ, _+_, _-_, min}
 use lib.Dec.{ltb, eqb}
 use lib.ListN.{getD, set}
@@ -123,7 +123,7 @@ returnStage k b r d isShort s = record {
   short = cond isShort (set (s .short) (r .row) true) (s .short);
 }
 
--- ---- the reason, and the controlling stations that may be named
+-- ---- the reason, and the controlling station (02, No. 2)
 
 -- 01's reasons 0, 1, 2, 3
 pub data Reason : Type 0 where
@@ -140,40 +140,52 @@ shortage storage isCalled = cond isCalled calledOut riverLow
 unfoldable pub reasonOf : Basin → Right → State → Bool → Reason
 reasonOf b r s isShort = cond isShort (shortage (r .kind) (called b r s)) met
 
-unfoldable pub keepIf : (ℕ → Bool) → List ℕ → List ℕ
-keepIf t [] = []
-keepIf t (x ∷ xs) = cond (t x) (x ∷ keepIf t xs) (keepIf t xs)
+-- the first row of a path that passes a test; 0 where none does
+unfoldable pub firstOn : (ℕ → Bool) → List ℕ → ℕ
+firstOn t [] = 0
+firstOn t (q ∷ p) = cond (t q) q (firstOn t p)
 
--- the rows of a path with its lowest available flow
-unfoldable pub lowestOn : List Level → List ℕ → List ℕ
-lowestOn l p = keepIf (λ q. leZ (availableAt l q) (lowest l p)) p
+-- whether a right served before is short at row q, and the first such row
+abbrev pub isShortAt : State → ℕ → Bool
+isShortAt s q = getD (s .short) q false
 
-unfoldable pub lowRows : Kind → Basin → Right → State → List ℕ
-lowRows direct b r s = lowestOn (s .levels) (pathOf b r)
-lowRows project b r s = lowestOn (s .levels) (pathOf b r)
-lowRows instream b r s = r .row ∷ []
-lowRows storage b r s = lowestOn (s .levels) (pathOf b r)
+abbrev pub firstShort : State → List ℕ → ℕ
+firstShort s p = firstOn (isShortAt s) p
+
+-- whether no row of the path can spare less than row q, and the first such row
+abbrev pub isLowest : State → List ℕ → ℕ → Bool
+isLowest s p q = leZ (availableAt (s .levels) q) (lowest (s .levels) p)
+
+abbrev pub firstLowest : State → List ℕ → ℕ
+firstLowest s p = firstOn (isLowest s p) p
+
+-- where the river is low: an instream right looks at its own row alone
+unfoldable pub lowRow : Kind → Basin → Right → State → ℕ
+lowRow direct b r s = firstLowest s (pathOf b r)
+lowRow project b r s = firstLowest s (pathOf b r)
+lowRow instream b r s = r .row
+lowRow storage b r s = firstLowest s (pathOf b r)
 
 unfoldable pub numberAt : List Station → ℕ → ℕ
 numberAt st r = (stationAt st r) .number
 
--- The station that holds a right back: where it is called out, that of a short right below; where the river is low, that of a row which could spare least
--- before the grant (of an instream right its own); where storage ran out, the reservoir's. A right that is not short has station 0. State s is that before
--- the grant.
-unfoldable pub controlling : Basin → Right → State → Reason → List ℕ
-controlling b r s met = 0 ∷ []
-controlling b r s calledOut = map (numberAt (b .stations)) (keepIf (λ q. getD (s .short) q false) (pathOf b r))
-controlling b r s riverLow = map (numberAt (b .stations)) (lowRows (r .kind) b r s)
-controlling b r s storageOut = numberAt (b .stations) ((reservoirOf b r) .row) ∷ []
+-- The station that holds a right back: where it is called out, that of the first short row on its path; where the river is low, that of the first row that
+-- can spare least; where storage ran out, the reservoir's. A right that is not short has station 0. State s is that before the grant, so that a right's
+-- own shortage does not count.
+unfoldable pub controlling : Basin → Right → State → Reason → ℕ
+controlling b r s met = 0
+controlling b r s calledOut = numberAt (b .stations) (firstShort s (pathOf b r))
+controlling b r s riverLow = numberAt (b .stations) (lowRow (r .kind) b r s)
+controlling b r s storageOut = numberAt (b .stations) ((reservoirOf b r) .row)
 
 -- ---- the turn
 
--- What a right is given from the river and from storage, and why no more; beside them the stations of which the report names one.
+-- What a right is given from the river and from storage, why no more, and the station that holds it back.
 pub record Grant : Type 0 where
   pub fromRiver : ℕ
   pub fromStorage : ℕ
   pub reason : Reason
-  pub stations : List ℕ
+  pub station : ℕ
 
 abbrev pub granted : Grant → ℕ
 granted g = g .fromRiver + g .fromStorage
@@ -201,7 +213,7 @@ turn b m i r s =
     record {
       right = r;
       asked = a;
-      grant = record { fromRiver = d; fromStorage = x; reason = why; stations = controlling b r s why };
+      grant = record { fromRiver = d; fromStorage = x; reason = why; station = controlling b r s why };
       after-river = s₁;
       after-storage = s₂;
       after-returns = returnStage k b r (d + x) isShort s₂;

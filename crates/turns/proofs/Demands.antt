@@ -1,17 +1,17 @@
 -- The demand and the river part in the rules' words. Assumes nothing.
 use mathlib.Core.Bool.{Bool, true, false, not, cond}
 use mathlib.Core.List.{List, [], _∷_}
-use mathlib.Core.Logic.{_⊎_, inl, inr}
 use mathlib.Core.Path.{_≡_, refl, sym, ap, _∙_}
 use Prim.Native.Nat.{ℕ, _+_, _-_, _≤_, _<_, min}
 use native.Mathlib.Nat.{le-trans}
 use native.Mathlib.Omega.{arith}
+use lib.Dec.{leb}
 use lib.ListN.{length, getD}
 use lib.IntN.{ℤ, pos}
 use lib.Signed.{leZ, _≤ℤ_, leZ-yes}
 use Rattle.general.specs.Sums.{only}
 use Rattle.general.specs.Tests.{has, bit}
-use Rattle.general.proofs.Search.{has-none, has-head, has-tail, has-other}
+use Rattle.general.proofs.Search.{has-none, has-head, has-tail, has-other, has-once}
 use Rattle.general.proofs.Signed.{le-make, eq-make, signed}
 use Rattle.general.proofs.Tables.{tab-at}
 use Rattle.general.proofs.Tests.{absurd-bool, true-of, only-le, by-eqb, T-of}
@@ -20,7 +20,9 @@ use Rattle.rules.specs.Basin as rules
 use Rattle.rules.specs.Basin.{Right, rows, reservoirAt, reservoirOf}
 use Rattle.rules.specs.Path.{path}
 use Rattle.rules.specs.River.{Level, availableAt, lower, lowest, lesser}
-use Rattle.rules.specs.Turn.{State, pathOf, storageOf, markOf, scheduled, demand, anyOn, called, divertible, riverPart}
+use Rattle.rules.specs.Turn.{State, pathOf, storageOf, markOf, scheduled, demand, anyOn, called, divertible, riverPart, isLowest, firstLowest}
+use Rattle.rules.proofs.Path.{path-head}
+use Rattle.rules.proofs.Tight.{first-same, first-twice}
 use Rattle.records.specs.declared.rights.Kind.{Kind}
 use Rattle.records.specs.declared.rights.Kind.the-variants.{Direct, Project, Instream, Storage}
 use Rattle.records.specs.Records.{reservoirCount, amountAt, kindOf, rightOf}
@@ -172,21 +174,37 @@ module _ (T : BeforeTurn) where
   unfolding stateOf
   available-is k h = ap (λ (x : Level). x .available) (levels-at (rows (R .basin)) (T .flow) (T .available) k h)
 
-  pub lowest-is : (q : ℕ) → seenOn (T .short) (T .available) (theRow R) p ≡ seen.Low q → (lowest (s .levels) p ≡ pos (getD (T .available) q 0)) × (has q p ≡ true) × (anyOn (T .short) p ≡ false) × ((k : ℕ) → has k p ≡ true → getD (T .available) q 0 ≤ getD (T .available) k 0)
-  lowest-is q e =
-      let o : LowSeen (T .short) (T .available) (theRow R) p q = seen-low (T .short) (T .available) (theRow R) p q e in
-      let on : has q p ≡ true = place (o .on) in
-      (lowest-nat (s .levels) (T .available) (getD (T .available) q 0) p (λ k h. available-is k (on-path k h)) (o .least) q on refl, on, o .open-path, o .least)
-    where
-      place : (q ≡ theRow R) ⊎ (has q p ≡ true) → has q p ≡ true
-      place (inl z) = rw z (by-self (R .table) (downhill (R .setting)) (theRow R) (row-on R))
-      place (inr h) = h
+  -- the row seen is the first with the lowest available flow
+  module _ (q : ℕ) (e : seenOn (T .short) (T .available) (theRow R) p ≡ seen.Low q) where
+    low : LowSeen (T .short) (T .available) (theRow R) p q
+    low = seen-low (T .short) (T .available) (theRow R) p q e
+
+    pub not-called : anyOn (T .short) p ≡ false
+    not-called = low .open-path
+
+    pub low-least : (k : ℕ) → has k p ≡ true → getD (T .available) q 0 ≤ getD (T .available) k 0
+    low-least k h = low .least k (has-tail k (theRow R) p h)
+
+    low-on : has q p ≡ true
+    low-on = has-once q (theRow R) p (by-self (R .table) (downhill (R .setting)) (theRow R) (row-on R)) (low .on)
+
+    pub lowest-is : lowest (s .levels) p ≡ pos (getD (T .available) q 0)
+    lowest-is = lowest-nat (s .levels) (T .available) (getD (T .available) q 0) p (λ k h. available-is k (on-path k h)) low-least q low-on refl
+
+    pub low-first : firstLowest s p ≡ q
+    low-first =
+        let t : ℕ → Bool = λ k. leb (getD (T .available) k 0) (getD (T .available) q 0) in
+        let h = path-head (R .basin .stations) (theRow R) (row-in R) in
+        let own : p ≡ theRow R ∷ h .0 = path-is (R .setting) (theRow R) (row-in R) ∙ h .1 in
+        first-same (isLowest s p) t p (λ k l. rw (available-is k (on-path k l), lowest-is))
+        ∙ sym (rw own (first-twice t (theRow R) (h .0)))
+        ∙ low .first
 
   -- what a right that looks down its path may divert
   divert-is : (x : ℕ) (y : Seen) → seenOn (T .short) (T .available) (theRow R) p ≡ y → partOf (T .available) x y ≡ divertible (R .basin) r s x
   unfolding partOf divertible lesser
   divert-is x (seen.Called q) e = sym (rw (called-is, seen-called (T .short) (T .available) (theRow R) p q e .2))
-  divert-is x (seen.Low q) e = let o = lowest-is q e in sym (rw (called-is, o .2, (path-of R), o .0))
+  divert-is x (seen.Low q) e = sym (rw (called-is, not-called q e, path-of R, lowest-is q e))
 
   instream-is : (x : ℕ) → partOf (T .available) x (seen.Low (theRow R)) ≡ lesser x (availableAt (s .levels) (r .row))
   unfolding partOf lesser

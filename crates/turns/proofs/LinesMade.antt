@@ -1,13 +1,11 @@
 -- The lines of the report, from k rights told to k + 1. Assumes nothing.
-use mathlib.Core.Bool.{true}
 use mathlib.Core.List.{List}
 use mathlib.Core.Logic.{_≢_}
-use mathlib.Core.Path.{_≡_, sym, ap, _∙_, subst}
+use mathlib.Core.Path.{_≡_, sym, _∙_, subst}
 use Prim.Native.Nat.{ℕ, suc, _+_, _≤_, _<_}
 use native.Mathlib.Omega.{arith}
 use lib.ListN.{length, getD, set, length-set}
 use lib.Seq.{getD-set-same, getD-set-other}
-use Rattle.general.specs.Tests.{has}
 use Rattle.general.proofs.Lists.{by-place}
 use Rattle.general.proofs.Tests.{by-eqb}
 use Rattle.places.specs.Report.{fromRiverPlace, fromStoragePlace, reasonPlace, stationPlace}
@@ -81,7 +79,7 @@ module _ (l : List ℕ) (k x₀ x₁ x₂ x₃ : ℕ) (h : stationPlace k < leng
 
 -- the lines of k rights, and one more
 pub lines-more : (ts : List Turn) (k : ℕ) (before l : List ℕ) (g : program.Grant) (name : ℕ) → stationPlace k < length l → LinesTo ts k before l
-    → g .«from_river» ≡ (grantAt ts k) .fromRiver → g .«from_storage» ≡ (grantAt ts k) .fromStorage → whyOf (g .reason) ≡ reasonNumber ((grantAt ts k) .reason) → has name ((grantAt ts k) .stations) ≡ true
+    → g .«from_river» ≡ (grantAt ts k) .fromRiver → g .«from_storage» ≡ (grantAt ts k) .fromStorage → whyOf (g .reason) ≡ reasonNumber ((grantAt ts k) .reason) → name ≡ (grantAt ts k) .station
     → LinesTo ts (suc k) before (lineOf l k g name)
 unfolding lineOf
 lines-more ts k before l g name h p e₀ e₁ e₂ e₃ =
@@ -99,9 +97,9 @@ lines-more ts k before l g name h p e₀ e₁ e₂ e₃ =
       reason = λ j o. by-eqb j k (λ _. getD new (reasonPlace j) 0 ≡ reasonNumber ((grantAt ts j) .reason))
           (λ e. subst (λ (u : ℕ). getD new (reasonPlace u) 0 ≡ reasonNumber ((grantAt ts u) .reason)) (sym e) (line-2 l k x₀ x₁ x₂ name h ∙ e₂))
           (λ e. line-else l k x₀ x₁ x₂ name h (reasonPlace j) .0 (omega (arith, o, below j k o e)) ∙ p .reason j (below j k o e));
-      station = λ j o. by-eqb j k (λ _. has (getD new (stationPlace j) 0) ((grantAt ts j) .stations) ≡ true)
-          (λ e. subst (λ (u : ℕ). has (getD new (stationPlace u) 0) ((grantAt ts u) .stations) ≡ true) (sym e) (ap (λ (x : ℕ). has x ((grantAt ts k) .stations)) (line-3 l k x₀ x₁ x₂ name h) ∙ e₃))
-          (λ e. ap (λ (x : ℕ). has x ((grantAt ts j) .stations)) (line-else l k x₀ x₁ x₂ name h (stationPlace j) .0 (omega (arith, o, below j k o e))) ∙ p .station j (below j k o e));
+      station = λ j o. by-eqb j k (λ _. getD new (stationPlace j) 0 ≡ (grantAt ts j) .station)
+          (λ e. subst (λ (u : ℕ). getD new (stationPlace u) 0 ≡ (grantAt ts u) .station) (sym e) (line-3 l k x₀ x₁ x₂ name h ∙ e₃))
+          (λ e. line-else l k x₀ x₁ x₂ name h (stationPlace j) .0 (omega (arith, o, below j k o e)) ∙ p .station j (below j k o e));
       beyond = λ q o. line-else l k x₀ x₁ x₂ name h q .1 (omega (arith, o)) ∙ p .beyond q (omega (arith, o));
       size = line-size l k x₀ x₁ x₂ name h ∙ p .size;
     }

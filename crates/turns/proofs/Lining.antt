@@ -7,7 +7,6 @@ use native.Mathlib.Omega.{arith}
 use lib.Dec.{eqb}
 use lib.ListN.{length, getD, drop}
 use Rattle.general.specs.Sums.{sumOver, only}
-use Rattle.general.specs.Tests.{has}
 use Rattle.general.proofs.Lists.{getD-map-in, drop-at, drop-next, drop-head, drop-all}
 use Rattle.places.specs.Report.{stationPlace}
 use Rattle.rules.specs.Basin.{Right, Basin, noRight, patternOf}
@@ -123,7 +122,7 @@ module _ {b : Basin} {st t rs : List ℕ} {pa : List (List ℕ)} {ri : List ℕ}
       (q .turned .tells .from-river ∙ sym (ap (λ (g : Grant). g .fromRiver) grant-here))
       (q .turned .tells .from-storage ∙ sym (ap (λ (g : Grant). g .fromStorage) grant-here))
       (q .turned .tells .reason ∙ sym (ap (λ (g : Grant). reasonNumber (g .reason)) grant-here))
-      (ap (λ (g : Grant). has (namedBy (homeOf b r) ((q .made) .reason)) (g .stations)) grant-here ∙ q .turned .tells .station))
+      (q .turned .tells .station ∙ sym (ap (λ (g : Grant). g .station) grant-here)))
 
   served-suc : ServedTo b m (suc k) f a sh bd rp f″ a″ sh″ bd″ rp″ (record { shorts = c .shorts + d .shorts })
   served-suc = record {

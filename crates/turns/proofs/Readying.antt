@@ -28,7 +28,7 @@ use Rattle.turns.proofs.RightFacts.{right-good, place-most, limit-is, r
 use Rattle.turns.proofs.Places.{poured-size, poured-grown, poured-other}
 use Rattle.turns.proofs.RowReads.{taken-read, release-read, lowered}
 use Rattle.grants.proofs.Looks.{seen-along}
-use Rattle.turns.proofs.Demands.{ask-most, ask-marked, lowest-is}
+use Rattle.turns.proofs.Demands.{ask-most, ask-marked, low-least}
 
 pub few-reservoirs : (R : RightAt) → reservoirCount (R .reservoirs) ≤ 8
 few-reservoirs R = omega (arith, reservoirs-count (R .setting), R .setting .accepted .few-reservoirs)
@@ -92,7 +92,7 @@ module _ (T : BeforeTurn) where
     path-fits : (y : Seen) → seenOn (T .short) (T .available) (theRow R) (thePath R) ≡ y → (k : ℕ) → has k (thePath R) ≡ true → partOf (T .available) ask y ≤ getD (T .available) k 0
     unfolding partOf
     path-fits (seen.Called q) e k h = omega arith
-    path-fits (seen.Low q) e k h = omega (arith, lowest-is T q e .3 k h)
+    path-fits (seen.Low q) e k h = omega (arith, low-least T q e k h)
 
     along-fits : isInstream (theKind R) ≡ false → (k : ℕ) → has k (thePath R) ≡ true → d ≤ getD (T .available) k 0
     along-fits n k h = omega (arith, G .gave .part, ap (partOf (T .available) ask) (seen-along (theKind R) (R .table) (T .available) (T .short) (theRow R) n), path-fits (seenOn (T .short) (T .available) (theRow R) (thePath R)) refl k h)

@@ -1,11 +1,10 @@
 -- All rights of a month in list order: the lines of the report, and what the arrays hold after them.
-use mathlib.Core.Bool.{Bool, true, cond}
+use mathlib.Core.Bool.{Bool, cond}
 use mathlib.Core.List.{List}
 use mathlib.Core.Path.{_≡_}
 use Prim.Native.Nat.{ℕ, suc, _+_, _*_, _≤_, _<_}
 use lib.Dec.{eqb}
 use lib.ListN.{length, getD, set, drop}
-use Rattle.general.specs.Tests.{has}
 use Rattle.places.specs.Board.{monthAt, dueAt, BoardOk}
 use Rattle.places.specs.Report.{fromRiverPlace, fromStoragePlace, reasonPlace, stationPlace, linesEnd}
 use Rattle.rules.specs.Basin.{Basin, rows}
@@ -55,7 +54,7 @@ pub record LinesTo (ts : List Turn) (k : ℕ) (before after : List ℕ) : Type 0
   pub from-river : (j : ℕ) → j < k → getD after (fromRiverPlace j) 0 ≡ (grantAt ts j) .fromRiver
   pub from-storage : (j : ℕ) → j < k → getD after (fromStoragePlace j) 0 ≡ (grantAt ts j) .fromStorage
   pub reason : (j : ℕ) → j < k → getD after (reasonPlace j) 0 ≡ reasonNumber ((grantAt ts j) .reason)
-  pub station : (j : ℕ) → j < k → has (getD after (stationPlace j) 0) ((grantAt ts j) .stations) ≡ true
+  pub station : (j : ℕ) → j < k → getD after (stationPlace j) 0 ≡ (grantAt ts j) .station
   pub beyond : (p : ℕ) → linesEnd k ≤ p → getD after p 0 ≡ getD before p 0
   pub size : length after ≡ length before
 

@@ -1,11 +1,11 @@
 -- The arrays of a month as the rules' state, and what each stage of a right's turn leaves in them.
-use mathlib.Core.Bool.{Bool, true, false}
+use mathlib.Core.Bool.{Bool, false}
 use mathlib.Core.List.{List, []}
 use mathlib.Core.Path.{_≡_}
 use Prim.Native.Nat.{ℕ, suc, _+_, _*_, _^_, _≤_, _<_}
 use lib.ListN.{length, getD}
 use Rattle.general.specs.Tables.{tab}
-use Rattle.general.specs.Tests.{has, bit}
+use Rattle.general.specs.Tests.{bit}
 use Rattle.places.specs.Board.{monthAt, storageAt, marksAt, takenAt, dueAt, BoardOk}
 use Rattle.rules.specs.Basin.{Basin, Right, rows, reservoirAt, rightAt, patternOf}
 use Rattle.rules.specs.Returns.{partsOf, returnedAt}
@@ -85,12 +85,12 @@ namedBy home (Called s) = s
 namedBy home (RiverLow s) = s
 namedBy home StorageOut = home
 
--- a grant made tells the rules' grant; the station is one of those that may be named
+-- a grant made tells the rules' grant
 pub record Tells (g : Grant) (home : ℕ) (made : GrantMade) : Type 0 where
   pub from-river : made .«from_river» ≡ g .fromRiver
   pub from-storage : made .«from_storage» ≡ g .fromStorage
   pub reason : whyOf (made .reason) ≡ reasonNumber (g .reason)
-  pub station : has (namedBy home (made .reason)) (g .stations) ≡ true
+  pub station : namedBy home (made .reason) ≡ g .station
 
 -- the station of the reservoir that right i names
 abbrev pub homeOf : Basin → Right → ℕ

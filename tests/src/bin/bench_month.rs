@@ -4,7 +4,6 @@
 
 use river_tests::engine::board::BOARD;
 use river_tests::engine::records::Basin;
-use river_tests::engine::report;
 use river_tests::generate::{largest, sheet, straight, Rng};
 use river_tests::{engine, examples, ffi};
 use std::hint::black_box;
@@ -60,7 +59,6 @@ fn bench(name: &str, basin: &Basin, tight: u64) {
 /// The run of months, and room for the board and the report of both engines.
 struct Job {
     file: Vec<u8>,
-    rights: usize,
     sheets: Vec<Vec<u32>>,
     fresh: Vec<u64>,
     board: Vec<u64>,
@@ -76,7 +74,6 @@ impl Job {
         assert_eq!(engine::fresh(&file, &mut fresh), (0, 0));
         Job {
             file,
-            rights: basin.rights.len(),
             sheets: (0..MONTHS).map(|_| sheet(rng, basin, tenths)).collect(),
             board: fresh.clone(),
             fresh,
@@ -98,19 +95,12 @@ impl Job {
         short
     }
 
-    /// What is timed is the same work: answers, the last board and the last report, without
-    /// the stations, which may be named freely.
+    /// What is timed is the same work: answers, the last board and the last report.
     fn assert_both_alike(&mut self) -> u64 {
-        let native = (self.run(ffi::month), self.board.clone(), self.unnamed());
-        let plain = (self.run(engine::month), self.board.clone(), self.unnamed());
+        let native = (self.run(ffi::month), self.board.clone(), self.report.clone());
+        let plain = (self.run(engine::month), self.board.clone(), self.report.clone());
         assert!(native == plain, "the engines differ");
         plain.0
-    }
-
-    fn unnamed(&self) -> Vec<u64> {
-        let mut report = self.report.clone();
-        (0..self.rights).for_each(|place| report[report::station(place)] = 0);
-        report
     }
 
     /// Medians: nanoseconds of a native call, of a plain one, and the ratio of two rounds that

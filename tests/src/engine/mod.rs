@@ -18,9 +18,7 @@ pub mod split;
 pub mod tally;
 
 use check::judge;
-use month::{AllowedRows, NoWitness};
 use network::Network;
-use records::{u32_at, RIGHT_BYTES, STATION_BYTES};
 use slip::Faithful;
 
 /// What a call answers, 64 bits each: the number and place of a refusal, or 0 and what
@@ -42,34 +40,7 @@ pub fn fresh(file: &[u8], board: &mut [u64]) -> Answer {
 
 /// Runs one month. Answers 0 and the number of rights short, or a refusal.
 pub fn month(file: &[u8], runoff: &[u32], board: &mut [u64], report: &mut [u64]) -> Answer {
-    month::month(&Faithful, &mut NoWitness, file, runoff, board, report)
-}
-
-/// Like [`month`]; also tells, per right, the numbers of all stations that may
-/// be named (none for reason 0). The list is empty if the call is refused.
-pub fn month_allowed(
-    file: &[u8],
-    runoff: &[u32],
-    board: &mut [u64],
-    report: &mut [u64],
-) -> (Answer, Vec<Vec<u32>>) {
-    let mut allowed = AllowedRows(vec![0; file.len() / RIGHT_BYTES]);
-    let answer = month::month(&Faithful, &mut allowed, file, runoff, board, report);
-    let mut network = Network::room();
-    let Ok(basin) = judge(&Faithful, file, &mut network) else {
-        return (answer, Vec::new());
-    };
-    if answer.0 != 0 {
-        return (answer, Vec::new());
-    }
-    let numbers = |rows: u64| stations_of(basin.sections.stations, rows);
-    let rights = basin.sections.rights.len();
-    (answer, allowed.0[..rights].iter().map(|&rows| numbers(rows)).collect())
-}
-
-fn stations_of(stations: &[[u8; STATION_BYTES]], rows: u64) -> Vec<u32> {
-    let of_set = stations.iter().enumerate().filter(|(row, _)| rows >> row & 1 == 1);
-    of_set.map(|(_, record)| u32_at(record, 0)).collect()
+    month::month(&Faithful, file, runoff, board, report)
 }
 
 /// Number, place, sum of storages, sum of dues.

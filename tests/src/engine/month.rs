@@ -19,29 +19,10 @@ mod refusals;
 mod returns;
 mod turn;
 
-/// Is told, for each right, the rows whose station may be named. Under reasons 1 and 2
-/// there may be several, and the rules leave the choice.
-pub trait Witness {
-    fn may_name(&mut self, _right: usize, _rows: u64) {}
-}
-
-/// Nobody looks: the fast path.
-pub struct NoWitness;
-impl Witness for NoWitness {}
-
-/// Keeps the allowed rows of every right, bit r for row r; 0 for reason 0.
-pub struct AllowedRows(pub Vec<u64>);
-impl Witness for AllowedRows {
-    fn may_name(&mut self, right: usize, rows: u64) {
-        self.0[right] = rows;
-    }
-}
-
 /// The month call. Answers number and place, or 0 and the number of rights
 /// short. A refused call changes neither board nor report.
-pub fn month<T: Telling, W: Witness>(
+pub fn month<T: Telling>(
     telling: &T,
-    witness: &mut W,
     file: &[u8],
     runoff: &[u32],
     board: &mut [u64],
@@ -52,14 +33,13 @@ pub fn month<T: Telling, W: Witness>(
         Ok(basin) => basin,
         Err(refusal) => return refusal.answer(),
     };
-    month_on(telling, witness, &basin, runoff, board, report)
+    month_on(telling, &basin, runoff, board, report)
 }
 
 /// The month call on a file that has been judged, for a caller who runs many months
 /// of one file.
-pub fn month_on<T: Telling, W: Witness>(
+pub fn month_on<T: Telling>(
     telling: &T,
-    witness: &mut W,
     basin: &Judged,
     runoff: &[u32],
     board: &mut [u64],
@@ -74,7 +54,7 @@ pub fn month_on<T: Telling, W: Witness>(
     month.move_dues();
     for (place, record) in basin.sections.rights.iter().enumerate() {
         let right = Right::decode(record);
-        let (grant, reason, station) = month.serve(place, &right, witness);
+        let (grant, reason, station) = month.serve(place, &right);
         report[report::from_river(place)] = grant.from_river as u64;
         report[report::from_storage(place)] = grant.from_storage as u64;
         report[report::reason(place)] = reason;

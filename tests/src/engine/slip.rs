@@ -133,8 +133,10 @@ slips! {
     CalledBeforeStorageLow: "a called short project right gets reason 1",
     ProjectNamesOwnRow: "reason 3 names the right's station",
     RiverLowNamesLastRow: "reason 2 names the last row of the path",
+    RiverLowNamesLastOfLow: "of several lowest rows reason 2 names the last",
     RiverLowNamesOwnRow: "reason 2 names the right's own row",
-    CalledNamesOwnRow: "reason 1 names the right's own row",
+    CalledNamesLastCaller: "of several short rows reason 1 names the last",
+    CalledByOwnShortage: "reason 1 counts the right's own shortage, and names its own row",
     // Steps 4 and 5, the report.
     EvaporationNotCapped: "evaporation may be more than is stored",
     EvaporationFromOldStorage: "evaporation is reckoned from the storage before step 3",

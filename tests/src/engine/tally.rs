@@ -33,8 +33,8 @@ pub struct Grant {
     pub from_river: i128,
     pub from_storage: i128,
     pub reason: Reason,
-    /// Numbers of the stations that may be named; none for reason 0.
-    pub stations: Vec<u32>,
+    /// Number of the controlling station; 0 for reason 0.
+    pub station: u32,
 }
 
 #[derive(Clone, Copy, Debug, PartialEq, Eq)]
@@ -161,8 +161,7 @@ impl Tally {
         };
         let reach = if right.kind == INSTREAM { vec![row] } else { path.clone() };
         let lowest = reach.iter().map(|&row| river.available[row]).min().unwrap();
-        let low_rows: Vec<usize> =
-            reach.iter().copied().filter(|&row| river.available[row] == lowest).collect();
+        let low_row = reach.iter().copied().find(|&row| river.available[row] == lowest).unwrap();
 
         let from_river = if callers.is_empty() { demand.min(lowest) } else { 0 };
         if right.kind == INSTREAM {
@@ -189,17 +188,18 @@ impl Tally {
         river.assert_in_bounds("after returns");
 
         let short = from_river + from_storage < demand;
-        let (reason, rows) = match right.kind {
-            _ if !short => (Reason::NotShort, Vec::new()),
+        // Under reasons 1 and 2 the first row that fits, going down the path (02, No. 2).
+        let (reason, row) = match right.kind {
+            _ if !short => (Reason::NotShort, None),
             PROJECT => {
                 let lake = &basin.reservoirs[right.reservoir as usize];
-                (Reason::StorageLow, vec![lake.row as usize])
+                (Reason::StorageLow, Some(lake.row as usize))
             }
-            _ if !callers.is_empty() => (Reason::Called, callers),
-            _ => (Reason::RiverLow, low_rows),
+            _ if !callers.is_empty() => (Reason::Called, Some(callers[0])),
+            _ => (Reason::RiverLow, Some(low_row)),
         };
-        let stations = rows.iter().map(|&row| basin.stations[row].number).collect();
-        Grant { from_river, from_storage, reason, stations }
+        let station = row.map_or(0, |row| basin.stations[row].number);
+        Grant { from_river, from_storage, reason, station }
     }
 
     fn demand(&self, basin: &Basin, place: usize) -> i128 {

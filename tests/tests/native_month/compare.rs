@@ -1,7 +1,9 @@
 //! One month call by both engines: answer, whole board, whole report, and the numbers
 //! that lie beside both.
 
-use river_tests::engine::{month_allowed, report, Answer};
+use river_tests::engine::sections::find_sections;
+use river_tests::engine::slip::Faithful;
+use river_tests::engine::{month, report, Answer};
 use river_tests::ffi;
 use river_tests::generate::{River, Rng};
 use river_tests::lent::Lent;
@@ -37,8 +39,6 @@ pub struct Compared {
     pub numbers: [usize; 9],
     /// Rights of accepted calls by reason.
     pub reasons: [usize; 4],
-    /// Rights whose station is another one than the plain engine names.
-    other_station: usize,
 }
 
 impl Compared {
@@ -46,7 +46,7 @@ impl Compared {
     /// call is left in `call`.
     pub fn compare(&mut self, call: &mut Call, at: &dyn Display) -> Answer {
         let (mut board, mut report) = (call.board.clone(), call.report.clone());
-        let (answer, allowed) = month_allowed(&call.file, &call.runoff, &mut board, &mut report);
+        let answer = month(&call.file, &call.runoff, &mut board, &mut report);
         let (mut native_board, mut native_report) = (Lent::of(&call.board), Lent::of(&call.report));
         let native =
             ffi::month(&call.file, &call.runoff, native_board.list(), native_report.list());
@@ -58,26 +58,14 @@ impl Compared {
             native_report.assert_is(&call.report, "refused, report", at);
             return answer;
         }
-        self.take_named(&mut report, native_report.list(), &allowed);
         native_report.assert_is(&report, "report", at);
         native_board.assert_is(&board, "board", at);
+        let rights =
+            find_sections(&Faithful, &call.file).map_or(0, |sections| sections.rights.len());
+        (0..rights).for_each(|place| self.reasons[report[report::reason(place)] as usize] += 1);
         call.board = board;
         call.report = report;
         answer
-    }
-
-    /// Under reasons 1 and 2 the choice of a station is free. Where the native one may be
-    /// named, it is the expected one.
-    fn take_named(&mut self, report: &mut [u64], native: &[u64], allowed: &[Vec<u32>]) {
-        for (place, stations) in allowed.iter().enumerate() {
-            let (reason, at) = (report[report::reason(place)], report::station(place));
-            let may_name = stations.iter().any(|&number| number as u64 == native[at]);
-            if (reason == 1 || reason == 2) && may_name {
-                self.other_station += (report[at] != native[at]) as usize;
-                report[at] = native[at];
-            }
-            self.reasons[reason as usize] += 1;
-        }
     }
 
     /// native.sh adds up the counts of these lines.
@@ -85,8 +73,8 @@ impl Compared {
         let refused: usize = self.numbers[1..].iter().sum();
         println!(
             "{} calls, {refused} refused: {what}, by number 0 to 8 {:?}; rights by reason 0 to 3 \
-             {:?}, {} with another station than the plain engine's",
-            self.calls, self.numbers, self.reasons, self.other_station
+             {:?}",
+            self.calls, self.numbers, self.reasons
         );
     }
 }

@@ -1,7 +1,6 @@
 //! The static library's month call against the plain engine: lists of calls over
 //! years on random rivers, refused calls among them, and every damaged file and
-//! impossible board. Answer, whole board and whole report are compared; only the
-//! station of reasons 1 and 2 may be any that the plain engine allows. Feature
+//! impossible board. Answer, whole board and whole report are compared. Feature
 //! `native`.
 //!
 //! `RIVER_SEED` is the first seed, `RIVER_CALLS` how many calls the lists of months

@@ -17,43 +17,43 @@ impl<T: Telling> Month<'_, T> {
         grant.total() < demand
     }
 
-    /// The reason, with the rows that may be named. Where several fit, 3 goes before 1
-    /// and 1 before 2.
+    /// The reason, and the number of the station that it names. Where several reasons fit,
+    /// 3 goes before 1 and 1 before 2. Of the rows whose rights call, the first on the path
+    /// is named (02, No. 2).
     pub(super) fn reason(
         &self,
         right: &Right,
         short: bool,
         callers: u64,
-        low_rows: u64,
+        low_row: usize,
     ) -> (u64, u64) {
         if !short {
             return (0, 0);
         }
+        let own_row = right.row as usize;
+        let mut row = low_row;
+        let mut reason = 2;
         if right.kind == PROJECT && !(self.slips(Slip::CalledBeforeStorageLow) && callers != 0) {
-            return (3, 1 << self.reservoir_row(right.reservoir as usize));
+            reason = 3;
+            row = self.reservoir_row(right.reservoir as usize);
+        } else if callers != 0 {
+            reason = 1;
+            row = if self.slips(Slip::CalledNamesLastCaller) {
+                callers.ilog2() as usize
+            } else {
+                callers.trailing_zeros() as usize
+            };
         }
-        if callers != 0 {
-            return (1, callers);
-        }
-        (2, low_rows)
-    }
-
-    /// The station named: of the rows that may be, the first on the path.
-    pub(super) fn named(&self, right: &Right, reason: u64, rows: u64) -> u64 {
-        if reason == 0 {
-            return 0;
-        }
-        let own_row = (reason == 1 && self.slips(Slip::CalledNamesOwnRow))
+        if (reason == 1 && self.slips(Slip::CalledByOwnShortage))
             || (reason == 2 && self.slips(Slip::RiverLowNamesOwnRow))
-            || (reason == 3 && self.slips(Slip::ProjectNamesOwnRow));
-        let last_row = reason == 2 && self.slips(Slip::RiverLowNamesLastRow);
-        if own_row {
-            self.station_number(right.row as usize)
-        } else if last_row || rows == 0 {
-            self.station_number(self.rows() - 1)
-        } else {
-            self.station_number(rows.trailing_zeros() as usize)
+            || (reason == 3 && self.slips(Slip::ProjectNamesOwnRow))
+        {
+            row = own_row;
         }
+        if reason == 2 && self.slips(Slip::RiverLowNamesLastRow) {
+            row = self.rows() - 1;
+        }
+        (reason, self.station_number(row))
     }
 
     /// Only for the slip: seniors come back for water that returned after them.

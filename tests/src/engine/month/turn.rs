@@ -1,7 +1,7 @@
 //! The turn of one right (01, The board and one month, step 3): its demand, what it takes
 //! from the river, and what it stores or has released.
 
-use super::{rows_of, Grant, Month, Witness};
+use super::{rows_of, Grant, Month};
 use crate::engine::board::TAKEN;
 use crate::engine::records::*;
 use crate::engine::slip::{Slip, Telling};
@@ -43,12 +43,7 @@ impl<T: Telling> Month<'_, T> {
     }
 
     /// Step 3 for one right: its grant, reason and controlling station.
-    pub(super) fn serve<W: Witness>(
-        &mut self,
-        place: usize,
-        right: &Right,
-        witness: &mut W,
-    ) -> (Grant, u64, u64) {
+    pub(super) fn serve(&mut self, place: usize, right: &Right) -> (Grant, u64, u64) {
         let row = right.row as usize;
         let path = self.basin.network.path[row];
         let demand = self.demand(place, right);
@@ -60,7 +55,7 @@ impl<T: Telling> Month<'_, T> {
         // every row downstream can spare it.
         let from_river =
             if called { 0 } else { (demand - self.stored_first(right, demand)).min(lowest) };
-        let low_rows = if from_river < demand { self.rows_at(looks_at, lowest) } else { 0 };
+        let low_row = if from_river < demand { self.low_row(looks_at, lowest) } else { row };
         self.take_from_river(right, path, from_river);
 
         let from_storage = match right.kind {
@@ -76,14 +71,13 @@ impl<T: Telling> Month<'_, T> {
             self.return_flow(right, &grant);
         }
         let short = self.is_short(right, &grant, demand);
-        let (reason, rows) = self.reason(right, short, callers, low_rows);
-        witness.may_name(place, rows);
+        let (reason, station) = self.reason(right, short, callers, low_row);
         self.served_rows |= ((demand > 0) as u64) << row;
         if short {
             self.short_rows |= self.rows_that_call(right);
         }
         self.shorts += if self.slips(Slip::ShortsCountCalled) { called } else { short } as u64;
-        (grant, reason, self.named(right, reason, rows))
+        (grant, reason, station)
     }
 
     /// Rows of the rights that call this one: those on its path where a right has come
@@ -144,10 +138,16 @@ impl<T: Telling> Month<'_, T> {
         rows_of(rows).map(|row| water[row]).min().unwrap_or(0)
     }
 
-    fn rows_at(&self, rows: u64, lowest: i64) -> u64 {
-        rows_of(rows)
-            .filter(|&row| self.available[row] == lowest)
-            .fold(0, |set, row| set | 1 << row)
+    /// The first of these rows, from the right's own downstream, that can spare least
+    /// (02, No. 2).
+    fn low_row(&self, rows: u64, lowest: i64) -> usize {
+        let mut low_rows = rows_of(rows).filter(|&row| self.available[row] == lowest);
+        let named = if self.slips(Slip::RiverLowNamesLastOfLow) {
+            low_rows.last()
+        } else {
+            low_rows.next()
+        };
+        named.unwrap_or(0) // only a slip finds none
     }
 
     /// What is taken is gone from the whole path. What an instream right is granted stays
