@@ -108,13 +108,8 @@ tightBasin = record {
   reservoirs = [];
   patterns = [];
   rights =
-      plainRight 1 18900101 direct 2 255 10
-      ∷ plainRight 2 18910101 direct 0 255 15
-      ∷ plainRight 3 18920101 direct 3 255 5
-      ∷ plainRight 4 18930101 direct 2 255 5
-      ∷ plainRight 5 18940101 direct 1 255 5
-      ∷ plainRight 6 18950101 instream 0 255 12
-      ∷ [];
+      plainRight 1 18900101 direct 2 255 10 ∷ plainRight 2 18910101 direct 0 255 15 ∷ plainRight 3 18920101 direct 3 255 5
+      ∷ plainRight 4 18930101 direct 2 255 5 ∷ plainRight 5 18940101 direct 1 255 5 ∷ plainRight 6 18950101 instream 0 255 12 ∷ [];
 }
 
 -- A project right asks for more than the storage holds.
