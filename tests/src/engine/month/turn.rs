@@ -55,7 +55,8 @@ impl<T: Telling> Month<'_, T> {
         // every row downstream can spare it.
         let from_river =
             if called { 0 } else { (demand - self.stored_first(right, demand)).min(lowest) };
-        let low_row = if from_river < demand { self.low_row(looks_at, lowest) } else { row };
+        let river_low = from_river < demand && !called && right.kind != PROJECT;
+        let low_row = if river_low { self.low_row(looks_at, lowest) } else { row };
         self.take_from_river(right, path, from_river);
 
         let from_storage = match right.kind {
