@@ -36,7 +36,7 @@ module _ (t : ℕ → Bool) where
       go false = refl
 
   -- where one passes there is a first
-  pub first-is : (p : List ℕ) (q : ℕ) → has q p ≡ true → t q ≡ true → IsFirst t p (firstOn t p)
+  first-is : (p : List ℕ) (q : ℕ) → has q p ≡ true → t q ≡ true → IsFirst t p (firstOn t p)
   first-is [] q h e = absurd-bool h (has-none q)
   first-is (x ∷ p) q h e = go (t x) refl (first-is p q)
     where
@@ -75,7 +75,7 @@ called-first b r s e = let w = any-is (s .short) (pathOf b r) e in first-is (isS
 
 -- ---- river low: the lowest available flow of a path is that of one of its rows
 
-pub lowest-is : (l : List Level) (r : ℕ) (p : List ℕ) → (q : ℕ) × (has q (r ∷ p) ≡ true) × (lowest l (r ∷ p) ≡ availableAt l q)
+lowest-is : (l : List Level) (r : ℕ) (p : List ℕ) → (q : ℕ) × (has q (r ∷ p) ≡ true) × (lowest l (r ∷ p) ≡ availableAt l q)
 unfolding lowest
 lowest-is l r [] = (r, has-head r r [] refl, refl)
 lowest-is l r (x ∷ p) = go (leZ (availableAt l r) (lowest l (x ∷ p))) (lowest-is l x p)

@@ -18,8 +18,7 @@ impl<T: Telling> Month<'_, T> {
     }
 
     /// The reason, and the number of the station that it names. Where several reasons fit,
-    /// 3 goes before 1 and 1 before 2. Of the rows whose rights call, the first on the path
-    /// is named (02, No. 2).
+    /// 3 goes before 1 and 1 before 2.
     pub(super) fn reason(
         &self,
         right: &Right,
@@ -30,30 +29,34 @@ impl<T: Telling> Month<'_, T> {
         if !short {
             return (0, 0);
         }
-        let own_row = right.row as usize;
-        let mut row = low_row;
-        let mut reason = 2;
-        if right.kind == PROJECT && !(self.slips(Slip::CalledBeforeStorageLow) && callers != 0) {
-            reason = 3;
-            row = self.reservoir_row(right.reservoir as usize);
+        let storage_low =
+            right.kind == PROJECT && !(self.slips(Slip::CalledBeforeStorageLow) && callers != 0);
+        let (reason, mut row) = if storage_low {
+            (3, self.reservoir_row(right.reservoir as usize))
         } else if callers != 0 {
-            reason = 1;
-            row = if self.slips(Slip::CalledNamesLastCaller) {
-                callers.ilog2() as usize
-            } else {
-                callers.trailing_zeros() as usize
-            };
-        }
+            (1, self.caller(callers))
+        } else {
+            (2, low_row)
+        };
         if (reason == 1 && self.slips(Slip::CalledByOwnShortage))
             || (reason == 2 && self.slips(Slip::RiverLowNamesOwnRow))
             || (reason == 3 && self.slips(Slip::ProjectNamesOwnRow))
         {
-            row = own_row;
+            row = right.row as usize;
         }
         if reason == 2 && self.slips(Slip::RiverLowNamesLastRow) {
             row = self.rows() - 1;
         }
         (reason, self.station_number(row))
+    }
+
+    /// Of the rows whose rights call, the first on the path (02, No. 2).
+    fn caller(&self, callers: u64) -> usize {
+        if self.slips(Slip::CalledNamesLastCaller) {
+            callers.ilog2() as usize
+        } else {
+            callers.trailing_zeros() as usize
+        }
     }
 
     /// Only for the slip: seniors come back for water that returned after them.
