@@ -10,6 +10,12 @@ RIVER_LIB_DIR=$(cd "${RIVER_LIB_DIR:-target/staticlib}" && pwd)
 export RIVER_LIB_DIR
 bash tests/native/examples.sh
 
+# Nothing is allocated: of others the library wants the filling and moving of bytes alone.
+if nm --undefined-only "$RIVER_LIB_DIR/libledger.a" | grep ' U ' | grep -vE ' mem(cpy|move|set)$'; then
+    echo "libledger.a wants these of other libraries" >&2
+    exit 1
+fi
+
 native() {
     cargo "$1" --release --offline --quiet --manifest-path tests/Cargo.toml --features native "${@:2}"
 }
@@ -19,7 +25,7 @@ native test
 
 said=$(mktemp)
 trap 'rm -f "$said"' EXIT
-native test --test native --test native_month -- --nocapture | tee "$said"
+native test --test native --test native_month --test native_stack -- --nocapture | tee "$said"
 # Adds up what the tests counted.
 count() {
     grep -oE "[0-9]+ $1" "$said" | awk '{ sum += $1 } END { print sum }'

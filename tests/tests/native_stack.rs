@@ -1,0 +1,120 @@
+//! The stack that the static library's calls need, and the plain engine's month beside
+//! them. Feature `native`; counted on x86-64 alone.
+#![cfg(target_arch = "x86_64")]
+
+use river_tests::damage::{rich_base, BROKEN};
+use river_tests::engine::board::BOARD;
+use river_tests::engine::records::{Basin, MOST_RESERVOIRS, MOST_RIGHTS, MOST_STATIONS};
+use river_tests::engine::{fresh, month, report};
+use river_tests::ffi;
+use river_tests::generate::{any_river, largest, sheet, straight, Rng};
+use std::arch::asm;
+use std::collections::BTreeMap;
+
+/// The month's own arrays and what else it needs: a list of 64 numbers more goes beyond.
+/// `include/river.h` promises its callers less.
+const LIMIT: usize = 2560;
+
+/// Room for the report of any basin.
+const REPORT: usize = report::length(MOST_RIGHTS, MOST_STATIONS, MOST_RESERVOIRS);
+
+/// The stack that a call is made on, more than any of them needs.
+const STACK: usize = 1 << 16;
+
+const PLAIN: &str = "plain month";
+
+/// Entered on the other stack.
+extern "sysv64" fn enter(call: &mut &mut dyn FnMut()) {
+    call()
+}
+
+/// How far down a stack that holds `filler` alone is written to when `call` is made on it.
+fn depth_over(filler: u8, mut call: &mut dyn FnMut()) -> usize {
+    let mut stack = vec![filler; STACK];
+    // A stack grows down from its end, which is aligned to 16 bytes where a call is made.
+    let end = (stack.as_mut_ptr() as usize + STACK) & !15;
+    unsafe {
+        asm!(
+            "xchg rsp, r12",
+            "call {enter}",
+            "mov rsp, r12",
+            enter = in(reg) enter as extern "sysv64" fn(&mut &mut dyn FnMut()),
+            inout("r12") end => _,
+            in("rdi") &mut call,
+            clobber_abi("sysv64"),
+        );
+    }
+    let untouched = stack.iter().take_while(|&&byte| byte == filler).count();
+    assert!(untouched > 0, "the stack was too small");
+    end - (stack.as_ptr() as usize + untouched)
+}
+
+/// The most that each call needed, with the few bytes of the closure that makes it.
+#[derive(Default)]
+struct Deepest(BTreeMap<&'static str, usize>);
+
+impl Deepest {
+    /// By two fillers, since a call may happen to write one of them.
+    fn see(&mut self, name: &'static str, mut call: impl FnMut()) {
+        let deepest = self.0.entry(name).or_default();
+        for filler in [0xa5, 0x5a] {
+            *deepest = depth_over(filler, &mut call).max(*deepest);
+        }
+    }
+
+    fn see_all(&mut self, file: &[u8], runoff: &[u32], board: &[u64]) {
+        let (mut lent, mut told) = (board.to_vec(), vec![0; REPORT]);
+        self.see("check", || _ = ffi::check(file));
+        self.see("verdict", || _ = ffi::verdict(file));
+        self.see("stock", || _ = ffi::stock(file, board));
+        self.see("fresh", || _ = ffi::fresh(file, &mut lent));
+        lent.copy_from_slice(board);
+        self.see("month", || _ = ffi::month(file, runoff, &mut lent, &mut told));
+        lent.copy_from_slice(board);
+        self.see(PLAIN, || _ = month(file, runoff, &mut lent, &mut told));
+    }
+
+    /// Two years of a basin, from its fresh board.
+    fn see_years(&mut self, basin: &Basin, tenths: u64) {
+        let (file, rng) = (basin.encode(), &mut Rng::new(3));
+        let mut board = vec![0; BOARD];
+        assert_eq!(fresh(&file, &mut board), (0, 0));
+        for _ in 0..24 {
+            let runoff = sheet(rng, basin, tenths);
+            self.see_all(&file, &runoff, &board);
+            assert_eq!(month(&file, &runoff, &mut board, &mut [0; REPORT]).0, 0);
+        }
+    }
+}
+
+#[test]
+fn the_stack_is_counted() {
+    let mut deepest = Deepest::default();
+    deepest.see("an array", || _ = std::hint::black_box([1u8; 1000]));
+    let bytes = deepest.0["an array"];
+    assert!((1000..1200).contains(&bytes), "{bytes}");
+}
+
+#[test]
+fn a_call_needs_little_stack() {
+    let mut deepest = Deepest::default();
+    let rng = &mut Rng::new(31);
+    for _ in 0..300 {
+        let river = any_river(rng);
+        deepest.see_all(&river.file, &river.runoff(rng), &river.possible_board(rng));
+    }
+    for &(_, _, edit) in BROKEN.iter() {
+        let mut basin = rich_base();
+        edit(&mut basin, rng);
+        deepest.see_all(&basin.encode(), &[0; MOST_STATIONS], &[0; BOARD]);
+    }
+    for basin in [largest(), straight(MOST_STATIONS)] {
+        for tenths in [3, 100] {
+            deepest.see_years(&basin, tenths);
+        }
+    }
+    println!("bytes of stack: {:?}", deepest.0);
+    for (name, bytes) in deepest.0 {
+        assert!(bytes < LIMIT || name == PLAIN, "{name} needs {bytes} bytes of stack");
+    }
+}
