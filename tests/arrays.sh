@@ -16,7 +16,7 @@ array='[a-z_]+ = io::[a-z_]*buffer|([a-z_]+(:| =) )?(\[[^]]*\]?(; [0-9]+\])?|\*[
 # A line `crate/src/file.rt text` for each array of a folder of crates.
 arrays() {
     local file
-    for file in "$1"/*/src/*.rt; do
+    find "$1"/*/src -name '*.rt' | while read -r file; do
         code "$file" | { grep -oE "$array" || true; } | sed "s|^|${file#"$1"/} |"
     done | grep -vE '^river(calls|check)/' | sort
 }

@@ -2,15 +2,12 @@
 //! nowhere, a file at any address, numbers with all their 64 bits. Feature `native`.
 
 use river_tests::engine::board::BOARD;
-use river_tests::engine::records::{MOST_RESERVOIRS, MOST_RIGHTS, MOST_STATIONS};
-use river_tests::engine::{fresh, month, report, stock};
+use river_tests::engine::report::LONGEST;
+use river_tests::engine::{fresh, month, stock};
 use river_tests::ffi;
 use river_tests::generate::{any_river, river_of, Rng, Size};
 use river_tests::lent::Lent;
 use std::ptr::NonNull;
-
-/// Room for the report of any basin.
-const REPORT: usize = report::length(MOST_RIGHTS, MOST_STATIONS, MOST_RESERVOIRS);
 
 /// No numbers, at an address that is aligned and not to be read.
 fn nowhere<N>() -> &'static [N] {
@@ -67,7 +64,7 @@ fn a_file_lies_at_any_address() {
         let rng = &mut Rng::new(seed);
         let river = any_river(rng);
         let (runoff, board) = (river.runoff(rng), river.possible_board(rng));
-        let (mut plain_board, mut plain_report) = (board.clone(), vec![9; REPORT]);
+        let (mut plain_board, mut plain_report) = (board.clone(), vec![9; LONGEST]);
         let plain = month(&river.file, &runoff, &mut plain_board, &mut plain_report);
         assert_eq!(plain.0, 0);
         for shift in 0..9 {
@@ -78,7 +75,7 @@ fn a_file_lies_at_any_address() {
             let mut fresh_board = [7; BOARD];
             assert_eq!(ffi::fresh(file, &mut fresh_board), (0, 0), "{at}");
             assert_eq!(ffi::stock(file, &fresh_board), stock(&river.file, &fresh_board), "{at}");
-            let (mut lent_board, mut report) = (Lent::of(&board), vec![9; REPORT]);
+            let (mut lent_board, mut report) = (Lent::of(&board), vec![9; LONGEST]);
             assert_eq!(ffi::month(file, &runoff, lent_board.list(), &mut report), plain, "{at}");
             lent_board.assert_is(&plain_board, "board", &at);
         }
@@ -104,7 +101,7 @@ fn numbers_keep_all_their_bits() {
                 let told = stock(&river.file, &high);
                 let at = format!("seed {seed}, bit {bit} at place {place}");
                 assert_eq!(ffi::stock(&river.file, &high), told, "{at}");
-                let (mut lent, mut report) = (Lent::of(&high), vec![9; REPORT]);
+                let (mut lent, mut report) = (Lent::of(&high), vec![9; LONGEST]);
                 let answer = ffi::month(&river.file, &runoff, lent.list(), &mut report);
                 assert_eq!(answer.0, told[0], "{at}");
                 if told[0] != 0 {

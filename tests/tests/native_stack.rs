@@ -4,19 +4,17 @@
 
 use river_tests::damage::{rich_base, BROKEN};
 use river_tests::engine::board::BOARD;
-use river_tests::engine::records::{Basin, MOST_RESERVOIRS, MOST_RIGHTS, MOST_STATIONS};
-use river_tests::engine::{fresh, month, report};
+use river_tests::engine::records::{Basin, MOST_STATIONS};
+use river_tests::engine::report::LONGEST;
+use river_tests::engine::{fresh, month};
 use river_tests::ffi;
 use river_tests::generate::{any_river, largest, sheet, straight, Rng};
 use std::arch::asm;
 use std::collections::BTreeMap;
 
 /// The month's own arrays and what else it needs: a list of 64 numbers more goes beyond.
-/// `include/river.h` promises its callers less.
+/// `include/river.h` names a higher one, so that it need not follow every change.
 const LIMIT: usize = 2560;
-
-/// Room for the report of any basin.
-const REPORT: usize = report::length(MOST_RIGHTS, MOST_STATIONS, MOST_RESERVOIRS);
 
 /// The stack that a call is made on, more than any of them needs.
 const STACK: usize = 1 << 16;
@@ -63,7 +61,7 @@ impl Deepest {
     }
 
     fn see_all(&mut self, file: &[u8], runoff: &[u32], board: &[u64]) {
-        let (mut lent, mut told) = (board.to_vec(), vec![0; REPORT]);
+        let (mut lent, mut told) = (board.to_vec(), vec![0; LONGEST]);
         self.see("check", || _ = ffi::check(file));
         self.see("verdict", || _ = ffi::verdict(file));
         self.see("stock", || _ = ffi::stock(file, board));
@@ -82,7 +80,7 @@ impl Deepest {
         for _ in 0..24 {
             let runoff = sheet(rng, basin, tenths);
             self.see_all(&file, &runoff, &board);
-            assert_eq!(month(&file, &runoff, &mut board, &mut [0; REPORT]).0, 0);
+            assert_eq!(month(&file, &runoff, &mut board, &mut [0; LONGEST]).0, 0);
         }
     }
 }

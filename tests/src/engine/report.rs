@@ -1,6 +1,8 @@
 //! The places of a report: four numbers of each right, then two of each row, then one of
 //! each reservoir (01, The board and one month).
 
+use super::records::{MOST_RESERVOIRS, MOST_RIGHTS, MOST_STATIONS};
+
 pub const fn from_river(right: usize) -> usize {
     4 * right
 }
@@ -33,3 +35,6 @@ pub const fn evaporation(rights: usize, rows: usize, reservoir: usize) -> usize 
 pub const fn length(rights: usize, rows: usize, reservoirs: usize) -> usize {
     evaporation(rights, rows, reservoirs)
 }
+
+/// Room for the report of any basin.
+pub const LONGEST: usize = length(MOST_RIGHTS, MOST_STATIONS, MOST_RESERVOIRS);
