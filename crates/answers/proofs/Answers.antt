@@ -6,12 +6,12 @@ use mathlib.Core.Option.{Option, none, some}
 use Prim.Native.Nat.{ℕ}
 use native.Mathlib.Omega.{arith}
 use Rattle.rules.specs.declared.Verdict.{Verdict}
-use Rattle.rules.specs.declared.Verdict.the-variants.{Accepted, Layout, Station, Reservoir, Pattern, Right, Lists, Board, Runoff}
-use Rattle.rules.specs.Answers.{Answer, told}
+use Rattle.rules.specs.declared.Verdict.the-variants.{Accepted, Layout, Station, Reservoir, Pattern, Right, Lists, Board, Runoff, Book, Year}
+use Rattle.rules.specs.Answers.{Answer, told, orElse, unless}
 use Rattle.records.specs.Records.{basinOf}
 use Rattle.filecheck.specs.Check.{checkOf}
 use Rattle.boards.specs.Board.{possible}
-use Rattle.answers.specs.Answers.{accepted, verdictRefusal, fileRefusal, orElse, unless, lentRefusal, settled}
+use Rattle.answers.specs.Answers.{accepted, verdictRefusal, fileRefusal, lentRefusal, settled}
 
 -- ---- the file
 
@@ -26,6 +26,8 @@ verdict-settled (Right i) = refl
 verdict-settled Lists = refl
 verdict-settled Board = refl
 verdict-settled (Runoff i) = refl
+verdict-settled Book = refl
+verdict-settled Year = refl
 
 pub file-settled : (f : List ℕ) (v : Verdict) → v ≡ checkOf f → told v ≡ settled (fileRefusal f)
 unfolding fileRefusal
@@ -55,6 +57,8 @@ clear-file (Right i) e = absurd (omega arith)
 clear-file Lists e = absurd (omega arith)
 clear-file Board e = absurd (omega arith)
 clear-file (Runoff i) e = absurd (omega arith)
+clear-file Book e = absurd (omega arith)
+clear-file Year e = absurd (omega arith)
 
 pub accepted-of : (f : List ℕ) (a : Answer) → a ≡ settled (fileRefusal f) → a .number ≡ 0 → checkOf f ≡ Accepted
 unfolding fileRefusal
@@ -73,6 +77,8 @@ clear-all (Right i) fits can e = absurd (omega arith)
 clear-all Lists fits can e = absurd (omega arith)
 clear-all Board fits can e = absurd (omega arith)
 clear-all (Runoff i) fits can e = absurd (omega arith)
+clear-all Book fits can e = absurd (omega arith)
+clear-all Year fits can e = absurd (omega arith)
 
 -- ---- all that is lent
 

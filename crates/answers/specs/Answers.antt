@@ -1,12 +1,12 @@
 -- What the calls turn down, in the order of the numbers (01, "Numbers for what is turned down").
-use mathlib.Core.Bool.{Bool, true, false, cond}
+use mathlib.Core.Bool.{Bool, cond}
 use mathlib.Core.List.{List}
 use mathlib.Core.Option.{Option, none, some}
 use Prim.Native.Nat.{ℕ}
 use lib.Dec.{eqb}
 use Rattle.rules.specs.declared.Verdict.{Verdict}
 use Rattle.rules.specs.declared.Verdict.the-variants.{Accepted, Lists, Board}
-use Rattle.rules.specs.Answers.{Answer, numberOf, told}
+use Rattle.rules.specs.Answers.{Answer, numberOf, told, orElse, unless}
 use Rattle.records.specs.Records.{basinOf}
 use Rattle.filecheck.specs.Check.{checkOf}
 use Rattle.boards.specs.Board.{possible}
@@ -23,16 +23,6 @@ verdictRefusal v = cond (eqb (numberOf v) 0) none (some (told v))
 -- the file, by its check: 1 to 5
 unfoldable pub fileRefusal : List ℕ → Option Answer
 fileRefusal f = verdictRefusal (checkOf f)
-
--- a refusal, or else what comes after
-unfoldable pub orElse : Option Answer → Option Answer → Option Answer
-orElse none later = later
-orElse (some a) later = some a
-
--- refused with this verdict, unless the test holds
-unfoldable pub unless : Bool → Verdict → Option Answer
-unless true v = none
-unless false v = some (told v)
 
 -- all that is lent: the file, then the lengths of the lists, by the call's own test, then the board
 unfoldable pub lentRefusal : List ℕ → Bool → List ℕ → Option Answer

@@ -25,6 +25,8 @@ fn number(verdict: Verdict) -> u64
         Verdict::Lists => 6,
         Verdict::Board => 7,
         Verdict::Runoff(_) => 8,
+        Verdict::Book => 9,
+        Verdict::Year => 10,
     }
 }
 
@@ -42,6 +44,8 @@ fn place(verdict: Verdict) -> usize
         Verdict::Lists => 0,
         Verdict::Board => 0,
         Verdict::Runoff(i) => i,
+        Verdict::Book => 0,
+        Verdict::Year => 0,
     }
 }
 

@@ -6,10 +6,10 @@ use lib.ListN.{length}
 use Rattle.general.proofs.Tests.{eqb-other}
 use Rattle.places.specs.Board.{boardLength}
 use Rattle.rules.specs.declared.Verdict.the-variants.{Accepted, Lists}
-use Rattle.rules.specs.Answers.{Answer, told}
+use Rattle.rules.specs.Answers.{Answer, told, orElse, unless}
 use Rattle.records.specs.Records.{basinOf}
 use Rattle.filecheck.specs.Check.{checkOf}
-use Rattle.answers.specs.Answers.{accepted, fileRefusal, orElse, unless, settled}
+use Rattle.answers.specs.Answers.{accepted, fileRefusal, settled}
 use Rattle.answers.proofs.Answers.{settled-some, no-refusal}
 use Rattle.fresh.specs.Fresh.{freshRefusal, freshBoard, freshSettled, freshOf}
 

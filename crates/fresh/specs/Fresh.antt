@@ -6,13 +6,13 @@ use Prim.Native.Nat.{ℕ, _<_}
 use lib.ListN.{length, getD}
 use Rattle.places.specs.Board.{storagePlace, storageAt}
 use Rattle.rules.specs.declared.Verdict.the-variants.{Lists}
-use Rattle.rules.specs.Answers.{Answer}
+use Rattle.rules.specs.Answers.{Answer, orElse, unless}
 use Rattle.rules.specs.Basin.{Basin}
 use Rattle.rules.specs.Tally.{freshCarried}
 use Rattle.records.specs.Records.{reservoirRecord, basinOf}
 use Rattle.boards.specs.Board.{boardOf, boardFits}
 use Rattle.answers.specs.declared.Answer.{Answer as Given}
-use Rattle.answers.specs.Answers.{accepted, fileRefusal, orElse, unless, answerOf}
+use Rattle.answers.specs.Answers.{accepted, fileRefusal, answerOf}
 
 -- the file, and the length of the board
 unfoldable pub freshRefusal : List ℕ → List ℕ → Option Answer

@@ -8,8 +8,8 @@ use lib.ListN.{length}
 use Rattle.general.proofs.Tests.{eqb-same, and-true}
 use Rattle.rules.specs.Basin.{Basin}
 use Rattle.rules.specs.Month.{MonthRun, shortCount}
-use Rattle.rules.specs.Tally.{Call, listsFit, overLimit, overAnswer, judged, refusal, Start, Tally, begun, pending, nextRun, standing, afterJudged, afterCall, afterCalls, answerJudged, answerOf}
-use Rattle.rules.specs.Answers.{Answer}
+use Rattle.rules.specs.Tally.{Call, listsFit, overLimit, overAnswer, refusal, Start, Tally, begun, pending, nextRun, standing, afterJudged, afterCall, afterCalls, answerJudged, answerOf}
+use Rattle.rules.specs.Answers.{Answer, orElse, unless}
 use Rattle.rules.specs.Water.{MonthSound}
 use Rattle.rules.specs.Accepted.{Accepted}
 use Rattle.rules.specs.Theorems.{Possible}
@@ -21,7 +21,7 @@ use Rattle.filecheck.specs.Check.{checkOf}
 use Rattle.boards.specs.Board.{possible}
 use Rattle.boards.specs.Report.{reportOf}
 use Rattle.places.specs.Board.{boardLength}
-use Rattle.answers.specs.Answers.{orElse, unless, lentRefusal}
+use Rattle.answers.specs.Answers.{lentRefusal}
 use Rattle.answers.proofs.Answers.{no-refusal}
 use Rattle.month.specs.Month.{callWith, allFit, monthRefusal, runOf, Outcome, monthSettled, monthOf, MonthMeets}
 use Rattle.fresh.specs.Fresh.{freshRefusal, freshBoard, freshSettled, freshOf}
@@ -32,11 +32,6 @@ use Rattle.fresh.proofs.Start.{fresh-size, fresh-can}
 use Rattle.ledger.proofs.Telling.{tells}
 
 -- ---- refusals: on the tally's board a month is refused just where the tally refuses it
-
-settled-lists : (t : Bool) (runoff : List ℕ) → orElse (unless t Lists) (overAnswer (overLimit runoff)) ≡ judged t runoff
-unfolding orElse unless judged
-settled-lists true runoff = refl
-settled-lists false runoff = refl
 
 -- on an accepted file and a possible board only the lists are left to ask of what is lent
 lent-lists : (f board : List ℕ) (fits : Bool) → checkOf f ≡ AcceptedFile → possible (basinOf f) board ≡ true → lentRefusal f fits board ≡ unless fits Lists
@@ -53,8 +48,7 @@ same-refusal : (f runoff board report : List ℕ) → checkOf f ≡ AcceptedFile
 unfolding monthRefusal refusal
 same-refusal f runoff board report e n p =
     ap (λ (x : Option Answer). orElse x (overAnswer (overLimit runoff))) (lent-lists f board (allFit (basinOf f) runoff board report) e p)
-    ∙ settled-lists (allFit (basinOf f) runoff board report) runoff
-    ∙ ap (λ (t : Bool). judged t runoff) (lists-same (basinOf f) runoff board report n)
+    ∙ ap (λ (t : Bool). orElse (unless t Lists) (overAnswer (overLimit runoff))) (lists-same (basinOf f) runoff board report n)
 
 tally-length : (b : Basin) (t : Tally) → length (tallyBoard b t) ≡ boardLength
 unfolding tallyBoard

@@ -20,7 +20,7 @@ use Rattle.boards.specs.Report.{reportOf}
 use Rattle.places.specs.Report.{fromRiverPlace, fromStoragePlace, reasonPlace, stationPlace, flowPlace, availablePlace, evaporationPlace}
 use Rattle.ledger.specs.Account.{Tells}
 use Rattle.boards.proofs.Report.{report-by-parts, made-size, own-number, river-place, storage-place, reason-place, station-place, flow-place, available-place, evaporation-place, places-beyond}
-use Rattle.rules.proofs.Sums.{judged-none}
+use Rattle.rules.proofs.Sums.{accepted-fits}
 
 -- ---- nothing is left untold
 
@@ -47,8 +47,8 @@ all-told b h before after t n = report-by-parts b h before n after (record {
 
 -- an accepted call lends a report that is long enough
 report-fits : (b : Basin) (c : Call) → refusal b c ≡ none → reportLength b ≤ c .report
-unfolding refusal listsFit
-report-fits b c e = le-of (both-of (judged-none _ (c .runoff) e) .1)
+unfolding listsFit
+report-fits b c e = le-of (both-of (accepted-fits b c e) .1)
 
 module _ (b : Basin) (acc : Accepted b) (t : Tally) (p : Possible b (standing b t)) (c : Call) (accepted : refusal b c ≡ none) where
   -- after the last right nothing is negative

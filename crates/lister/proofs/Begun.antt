@@ -7,9 +7,9 @@ use mathlib.Core.Path.{_≡_, refl, ap, _∙_}
 use Prim.Native.Nat.{ℕ}
 use native.Mathlib.Omega.{arith}
 use lib.ListN.{length}
-use Rattle.rules.specs.Answers.{Answer}
+use Rattle.rules.specs.Answers.{Answer, orElse, unless}
 use Rattle.records.specs.Records.{basinOf}
-use Rattle.answers.specs.Answers.{fileRefusal, orElse, unless, settled}
+use Rattle.answers.specs.Answers.{fileRefusal, settled}
 use Rattle.fresh.specs.Fresh.{freshRefusal, freshBoard, Fresh, freshSettled, freshOf}
 use Rattle.answers.proofs.Answers.{accepted-of, no-refusal, settled-some}
 use Rattle.listing.specs.Listing.{refusalLine, header}

@@ -14,12 +14,11 @@ use Rattle.general.proofs.Tables.{tab-length}
 use Rattle.rules.specs.Basin.{Right, Basin, noRight, rows}
 use Rattle.rules.specs.Path.{lastRow}
 use Rattle.rules.specs.Month.{MonthRun}
-use Rattle.rules.specs.Answers.{Answer, told}
+use Rattle.rules.specs.Answers.{Answer, told, orElse, unless}
 use Rattle.rules.specs.Tally.{reportLength, overLimit, overAnswer}
 use Rattle.boards.specs.Board.{storageSum, dueSum}
 use Rattle.boards.specs.Report.{reportParts, reportOf}
 use Rattle.places.specs.Report.{fromRiverPlace, fromStoragePlace, reasonPlace, stationPlace, linesEnd, flowPlace, evaporationPlace, partAt}
-use Rattle.answers.specs.Answers.{orElse, unless}
 use Rattle.month.specs.Month.{runOf, boardAfter, Outcome, monthSettled}
 use Rattle.month.specs.Run.{SheetRan}
 use Rattle.listing.specs.Listing.{rightLine, rightLines, decimalText, lineOf, endLine, outflowIn, evaporationIn, monthText, refusalLine}

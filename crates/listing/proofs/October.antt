@@ -7,6 +7,7 @@ use Rattle.general.specs.Sums.{sumOver, sumTo}
 use Rattle.general.specs.Tables.{tab}
 use Rattle.general.specs.Routes.{follow}
 use Rattle.general.specs.Tests.{_and_, has, firstAt, bit}
+use Rattle.rules.specs.Answers.{orElse, unless}
 use Rattle.rules.specs.Path.{carriesOn, rowBelow, path, untilRow}
 use Rattle.rules.specs.River.{diverted, reserved, released, returned, along, lowest, lesser}
 use Rattle.rules.specs.Returns.{consumption, returning, sharesFrom, shares, partsAt, partsOf, lagged, returnNow, returnedAt}
@@ -19,7 +20,7 @@ use Rattle.places.specs.Board.{boardBy}
 use Rattle.places.specs.Board as board
 use Rattle.places.specs.Report as report
 use Rattle.boards.specs.Report.{grantNumber, levelNumber, reportParts, reportOf}
-use Rattle.answers.specs.Answers.{orElse, unless, fileRefusal, verdictRefusal}
+use Rattle.answers.specs.Answers.{fileRefusal, verdictRefusal}
 use Rattle.fresh.specs.Fresh.{freshBoard}
 use Rattle.month.specs.Month.{runOf, dueAfter, boardAfter}
 use Rattle.rules.specs.October.{october}

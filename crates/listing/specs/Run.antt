@@ -8,12 +8,12 @@ use lib.ListN.{length, take, drop}
 use Rattle.general.specs.Tables.{tab}
 use Rattle.rules.specs.Basin.{Basin, rows}
 use Rattle.rules.specs.declared.Verdict.the-variants.{Lists}
-use Rattle.rules.specs.Answers.{Answer}
+use Rattle.rules.specs.Answers.{Answer, orElse, unless}
 use Rattle.rules.specs.Tally.{overLimit, overAnswer}
 use Rattle.numbers.specs.Bytes.{le32At}
 use Rattle.records.specs.Records.{basinOf}
 use Rattle.boards.specs.Report.{reportOf}
-use Rattle.answers.specs.Answers.{fileRefusal, orElse, unless}
+use Rattle.answers.specs.Answers.{fileRefusal}
 use Rattle.fresh.specs.Fresh.{freshBoard}
 use Rattle.month.specs.Month.{runOf, boardAfter}
 use Rattle.listing.specs.Listing.{monthText, refusalLine, header}

@@ -21,9 +21,9 @@ use Rattle.records.proofs.Rows.{rows-are}
 use Rattle.places.specs.Report.{reportEnd}
 use Rattle.records.proofs.Decoded.{basin-bodies, reservoirs-are, rights-are}
 use Rattle.places.specs.Board.{boardLength}
-use Rattle.rules.specs.Answers.{Answer, told}
+use Rattle.rules.specs.Answers.{Answer, told, orElse}
 use Rattle.rules.specs.Tally.{mostRunoff, reportLength, listsFit, overLimit, overAnswer}
-use Rattle.answers.specs.Answers.{accepted, orElse, lentRefusal, settled}
+use Rattle.answers.specs.Answers.{accepted, lentRefusal, settled}
 use Rattle.answers.proofs.Answers.{settled-some, Clear, lent-none}
 use Rattle.month.specs.Month.{allFit, monthRefusal, Outcome, monthSettled, monthOf, MonthMeets}
 use Rattle.month.specs.Run.{CanRunSheet, SheetRan}

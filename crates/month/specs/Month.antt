@@ -10,7 +10,7 @@ use Rattle.general.specs.Sums.{only}
 use Rattle.general.specs.Tables.{tab}
 use Rattle.general.specs.Tests.{_and_}
 use Rattle.places.specs.Board.{dueAt}
-use Rattle.rules.specs.Answers.{Answer}
+use Rattle.rules.specs.Answers.{Answer, orElse}
 use Rattle.rules.specs.Basin.{Basin, rows}
 use Rattle.rules.specs.Month.{returnsAt, MonthRun, month, shortCount}
 use Rattle.rules.specs.Tally.{Call, listsFit, overLimit, overAnswer}
@@ -18,7 +18,7 @@ use Rattle.records.specs.Records.{basinOf}
 use Rattle.boards.specs.Board.{carriedOf, boardOf, boardFits}
 use Rattle.boards.specs.Report.{reportOf}
 use Rattle.answers.specs.declared.Answer.{Answer as Given}
-use Rattle.answers.specs.Answers.{orElse, lentRefusal, answerOf}
+use Rattle.answers.specs.Answers.{lentRefusal, answerOf}
 
 -- ---- what is turned down: what is lent, then runoff over its limit
 

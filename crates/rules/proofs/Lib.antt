@@ -1,3 +1,4 @@
+pub mod Answers
 pub mod Path
 pub mod River
 pub mod Splits
@@ -7,6 +8,7 @@ pub mod Months
 pub mod Reservoirs
 pub mod Pending
 pub mod Resumed
+pub mod Years
 pub mod Sums
 pub mod Bounds
 pub mod Possible

@@ -1,4 +1,4 @@
--- A list that starts where a tally stands goes on as that tally would. Assumes nothing.
+-- Tallies that stand alike go on alike, and one begun where another stands is such a one. Assumes nothing.
 use mathlib.Core.Path.{_≡_, refl, sym, ap, _∙_}
 use mathlib.Core.List.{List, [], _∷_}
 use mathlib.Core.Option.{Option, none, some}
@@ -49,14 +49,11 @@ module _ (b : Basin) where
       go none = same-accept t u c e
       go (some a) = e
 
-  same-calls : (t u : Tally) (cs : List Call) → SameStanding b t u → SameStanding b (afterCalls b t cs) (afterCalls b u cs)
+  pub same-calls : (t u : Tally) (cs : List Call) → SameStanding b t u → SameStanding b (afterCalls b t cs) (afterCalls b u cs)
   unfolding afterCalls
   same-calls t u [] e = e
   same-calls t u (c ∷ cs) e = same-calls (afterCall b t c) (afterCall b u c) cs (same-call t u c e)
 
-  begun-there : (t : Tally) → SameStanding b (begun (standing b t)) t
+  pub begun-there : (t : Tally) → SameStanding b (begun (standing b t)) t
   unfolding begun standing
   begun-there t = record { carried-same = refl; pending-same = λ w k l. pending-begins b (standing b t) w k l }
-
-  pub resumes : (t : Tally) (cs : List Call) → SameStanding b (afterCalls b (begun (standing b t)) cs) (afterCalls b t cs)
-  resumes t cs = same-calls (begun (standing b t)) t cs (begun-there t)

@@ -1,6 +1,6 @@
 -- The water of a list of calls. Assumes nothing.
 use mathlib.Core.Path.{_≡_, refl, ap, _∙_}
-use mathlib.Core.Bool.{Bool, true, false}
+use mathlib.Core.Bool.{true}
 use mathlib.Core.List.{List, [], _∷_, _++_}
 use mathlib.Core.Option.{Option, none, some}
 use Prim.Native.Nat.{ℕ, _+_}
@@ -17,8 +17,10 @@ use Rattle.rules.specs.Basin.{Basin, rows}
 use Rattle.rules.specs.Path.{lastRow}
 use Rattle.rules.specs.River.{flowAt}
 use Rattle.rules.specs.Month.{consumedBy, MonthRun, month}
-use Rattle.rules.specs.Tally.{Call, listsFit, judged, refusal, Start, Tally, begun, arriving, nextRun, accept, afterJudged, afterCall, afterCalls}
-use Rattle.rules.specs.Answers.{Answer}
+use Rattle.rules.specs.Tally.{Call, listsFit, overLimit, overAnswer, refusal, Start, Tally, begun, arriving, nextRun, accept, afterJudged, afterCall, afterCalls}
+use Rattle.rules.specs.declared.Verdict.the-variants.{Lists}
+use Rattle.rules.specs.Answers.{Answer, unless}
+use Rattle.rules.proofs.Answers.{or-first, unless-none}
 use Rattle.rules.specs.Water.{totalRunoff, totalOutflow, totalConsumption, totalEvaporation, inTransit, startingStorage, startingDues, storedIn, drawnFrom, totalStored, totalDrawn, totalLost, storageNow, allStorageNow, MonthSound, WaterKept}
 use Rattle.rules.specs.Accepted.{Accepted}
 use Rattle.rules.proofs.Stages.{outflow}
@@ -26,15 +28,15 @@ use Rattle.rules.proofs.Months.{MonthOk, month-ok}
 use Rattle.rules.proofs.Reservoirs.{month-entry}
 use Rattle.rules.proofs.Pending.{transit-on, transit-begins, arriving-sum}
 
--- an accepted call has one runoff number to a row
-pub judged-none : (t : Bool) (runoff : List ℕ) → judged t runoff ≡ none → t ≡ true
-unfolding judged
-judged-none true runoff e = refl
-judged-none false runoff e = absurd (let z : _≡_ {A = ℕ} 0 1 = cc in omega arith)
+-- the lists of an accepted call fit
+pub accepted-fits : (b : Basin) (c : Call) → refusal b c ≡ none → listsFit b c ≡ true
+unfolding refusal
+accepted-fits b c e = unless-none (listsFit b c) Lists (or-first (unless (listsFit b c) Lists) (overAnswer (overLimit (c .runoff))) e)
 
+-- it has one runoff number to a row
 accepted-length : (b : Basin) (c : Call) → refusal b c ≡ none → length (c .runoff) ≡ rows b
-unfolding refusal listsFit
-accepted-length b c e = eq-of (both-of (judged-none _ (c .runoff) e) .0)
+unfolding listsFit
+accepted-length b c e = eq-of (both-of (accepted-fits b c e) .0)
 
 -- ---- what holds of the tally after every list of calls
 

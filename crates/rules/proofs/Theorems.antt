@@ -1,17 +1,21 @@
 -- The theorems of specs/Theorems.antt. Assumes nothing.
+use mathlib.Core.Path.{sym, ap, _∙_, subst}
+use mathlib.Core.List.{List}
 use Rattle.general.specs.Tables.{tab}
 use Rattle.rules.specs.Basin.{rows}
-use Rattle.rules.specs.Tally.{begun, afterCalls}
+use Rattle.rules.specs.Tally.{Call, Tally, begun, standing, afterCalls}
+use Rattle.rules.specs.Years.{allCalls}
+use Rattle.rules.specs.Water.{WaterKept}
 use Rattle.rules.specs.Turn.{pathOf}
 use Rattle.rules.specs.River.{availableAt, lowest}
-use Rattle.rules.specs.Theorems.{Splitting, Paths, TightSpots, Areas, Fresh, Water, StartKept, Checkpoints, Unclipped, PendingOn, PendingEnds, PendingBegins, AlwaysPossible, Resumed, OctoberAccepted}
+use Rattle.rules.specs.Theorems.{Splitting, Paths, TightSpots, Areas, Possible, Fresh, CountsAsCalls, Water, StartKept, Checkpoints, Unclipped, PendingOn, PendingEnds, PendingBegins, AlwaysPossible, Resumed, OctoberAccepted}
 use Rattle.rules.proofs.Path.{path-ends, path-once, path-rising}
 use Rattle.rules.proofs.Tight.{called-first, low-first}
 use Rattle.rules.proofs.River.{lesser-signed, lowest-least}
 use Rattle.rules.proofs.Splits.{shares-sum}
 use Rattle.rules.proofs.Areas.{area-facts}
 use Rattle.rules.proofs.Months.{month-ok}
-use Rattle.rules.proofs.Resumed.{resumes}
+use Rattle.rules.proofs.Years.{entries-calls, resumes}
 use Rattle.rules.proofs.Pending.{pending-on, pending-ends, pending-begins}
 use Rattle.rules.proofs.Sums.{begun-ok, calls-ok, calls-start, water-kept}
 use Rattle.rules.proofs.October.{october-facts}
@@ -32,12 +36,17 @@ areas v r = area-facts v r
 pub fresh : Fresh
 fresh b acc = fresh-facts b acc
 
+pub countsAsCalls : CountsAsCalls
+countsAsCalls b t xs = entries-calls b t xs
+
 pub water : Water
-water b acc s p cs = water-kept b (afterCalls b (begun s) cs) (calls-ok b acc (begun s) cs (begun-ok b s (p .storages-count)))
+water b acc s p xs =
+    let cs : List Call = allCalls b (begun s) xs in
+    subst (WaterKept b) (sym (entries-calls b (begun s) xs)) (water-kept b (afterCalls b (begun s) cs) (calls-ok b acc (begun s) cs (begun-ok b s (p .storages-count))))
 
 pub startKept : StartKept
 unfolding begun
-startKept b s cs = calls-start b (begun s) cs
+startKept b s xs = ap (λ (t : Tally). t .start) (entries-calls b (begun s) xs) ∙ calls-start b (begun s) (allCalls b (begun s) xs)
 
 pub checkpoints : Checkpoints
 checkpoints b acc s p runoff = (month-ok b acc (s .carried) (p .storages-count) runoff (tab (rows b) (λ w. s .due w 1))) .sound
@@ -58,10 +67,12 @@ pub pendingBegins : PendingBegins
 pendingBegins b s w k l = pending-begins b s w k l
 
 pub alwaysPossible : AlwaysPossible
-alwaysPossible b acc s p cs = calls-possible b acc (begun s) cs (begun-possible b s p)
+alwaysPossible b acc s p xs =
+    let cs : List Call = allCalls b (begun s) xs in
+    subst (λ (t : Tally). Possible b (standing b t)) (sym (entries-calls b (begun s) xs)) (calls-possible b acc (begun s) cs (begun-possible b s p))
 
 pub resumed : Resumed
-resumed b t cs = resumes b t cs
+resumed b t xs = resumes b t xs
 
 pub octoberAccepted : OctoberAccepted
 octoberAccepted = october-facts

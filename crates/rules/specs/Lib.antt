@@ -6,6 +6,7 @@ pub mod Returns
 pub mod Turn
 pub mod Month
 pub mod Tally
+pub mod Years
 pub mod Water
 pub mod Accepted
 pub mod October

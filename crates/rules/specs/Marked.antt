@@ -2,8 +2,8 @@
 -- apart from a slip.
 use mathlib.Core.Path.{_≡_}
 use mathlib.Core.Bool.{true, false}
-use mathlib.Core.List.{List, [], _∷_}
-use mathlib.Core.Option.{some}
+use mathlib.Core.List.{List, [], _∷_, _++_}
+use mathlib.Core.Option.{none, some}
 use Prim.Native.Nat.{ℕ, suc, _+_, _-_}
 use lib.ListN.{length, getD, replicate}
 use lib.IntN.{pos}
@@ -14,7 +14,10 @@ use Rattle.rules.specs.River.{Level}
 use Rattle.rules.specs.Returns.{consumedAt, shares}
 use Rattle.rules.specs.Turn.{State, met, calledOut, riverLow, storageOut, Grant, demand}
 use Rattle.rules.specs.Month.{opening, grantsOf, areaAt, MonthRun}
+use Rattle.rules.specs.declared.Verdict.the-variants.{Year}
+use Rattle.rules.specs.Answers.{told}
 use Rattle.rules.specs.Tally.{Call, Start, Tally, fresh, begun, pending, nextRun, afterCalls, answers}
+use Rattle.rules.specs.Years.{YearRun, yearly, afterEntry, entryAnswer}
 use Rattle.rules.specs.Water.{totalRunoff, totalOutflow, totalConsumption, totalEvaporation, inTransit, startingStorage, startingDues}
 use Rattle.rules.specs.October.{plainRight, storageRight, returningRight, octoberStations, octoberReservoir, october, octoberCall}
 
@@ -155,6 +158,17 @@ january = record { carried = record { m = 3; storages = 30 ∷ []; marks = false
 abbrev pub afterJanuary : Tally
 afterJanuary = afterCalls shallowBasin (begun january) (sheet 100 0 ∷ [])
 
+-- A year whose October is over the limit, and one whose last two months are, at the second row and at the first. The reports of the basin, of two rows, one
+-- reservoir and no right, have five numbers.
+abbrev pub wetOctober : YearRun
+wetOctober = record { lookup = none; sheets = (1_000_000_001 ∷ 0 ∷ []) ∷ replicate 11 (100 ∷ 0 ∷ []); room = 60 }
+
+abbrev pub wetAutumn : ℕ → YearRun
+wetAutumn room = record { lookup = none; sheets = replicate 10 (100 ∷ 0 ∷ []) ++ ((0 ∷ 1_000_000_001 ∷ []) ∷ (1_000_000_001 ∷ 0 ∷ []) ∷ []); room = room }
+
+abbrev pub unlisted : YearRun
+unlisted = record { lookup = some (told Year); sheets = []; room = 0 }
+
 -- four calls that are refused, and one that is accepted
 abbrev pub mixedCalls : List Call
 mixedCalls =
@@ -205,6 +219,13 @@ pub record Told : Type 0 where
   pub started-sum : totalRunoff (afterJanuary .months) + (startingStorage (afterJanuary .start) + startingDues shallowBasin (afterJanuary .start)) ≡ 142
   pub started-evaporation : totalEvaporation (afterJanuary .months) ≡ 30
   pub started-month : (afterJanuary .carried) .m ≡ 4
+  -- a year run from January: nine calls, and October's sheet is not looked at; of the other nothing happens; a list of 59 numbers has no room for twelve reports
+  pub run-made : entryAnswer shallowBasin (begun january) (yearly wetOctober) ≡ record { number = 0; place = 9 }
+  pub run-ends : (afterEntry shallowBasin (begun january) (yearly wetOctober)) .carried ≡ record { m = 0; storages = 0 ∷ []; marks = false ∷ []; taken = [] }
+  pub run-refused : entryAnswer shallowBasin (begun january) (yearly (wetAutumn 60)) ≡ record { number = 8; place = 1 }
+  pub run-undone : afterEntry shallowBasin (begun january) (yearly (wetAutumn 60)) ≡ begun january
+  pub run-short : entryAnswer shallowBasin (begun january) (yearly (wetAutumn 59)) ≡ record { number = 6; place = 0 }
+  pub run-unlisted : entryAnswer shallowBasin (begun january) (yearly unlisted) ≡ record { number = 10; place = 0 }
   -- refusals: 6 for a short sheet or report, 8 with the first row over the limit; of the five calls one is a month
   pub refusals : answers filledBasin (fresh filledBasin) mixedCalls
       ≡ record { number = 6; place = 0 } ∷ record { number = 6; place = 0 } ∷ record { number = 8; place = 1 } ∷ record { number = 8; place = 0 } ∷ record { number = 0; place = 0 } ∷ []

@@ -1,7 +1,7 @@
 -- The tally of a list of month calls (01, "The tally of a list of months"): a second account of the same months, which has no board to go wrong. It is fed
 -- the basin, what the list starts from, and each call's runoff and report length. 01 starts it as fresh. Here it starts from whatever a possible board
 -- holds, since a month keeps its promise on each such board; fresh is one case.
-use mathlib.Core.Bool.{Bool, true, false}
+use mathlib.Core.Bool.{Bool, false}
 use mathlib.Core.List.{List, [], _∷_, _++_, map}
 use mathlib.Core.Option.{Option, none, some}
 use Prim.Native.Nat.{ℕ, suc, _+_}
@@ -12,7 +12,7 @@ use Rattle.general.specs.Tables.{tab}
 use Rattle.general.specs.Tests.{_and_, firstAt}
 use Rattle.places.specs.Report.{reportEnd}
 use Rattle.rules.specs.declared.Verdict.the-variants.{Lists, Runoff}
-use Rattle.rules.specs.Answers.{Answer, told}
+use Rattle.rules.specs.Answers.{Answer, told, orElse, unless}
 use Rattle.rules.specs.Basin.{Reservoir, Basin, rows}
 use Rattle.rules.specs.Month.{Carried, returnsAt, MonthRun, month, shortCount}
 
@@ -42,13 +42,9 @@ unfoldable pub overAnswer : Option ℕ → Option Answer
 overAnswer none = none
 overAnswer (some i) = some (told (Runoff i))
 
-unfoldable pub judged : Bool → List ℕ → Option Answer
-judged true runoff = overAnswer (overLimit runoff)
-judged false runoff = some (told Lists)
-
 -- The answer where the call is refused, none where it is accepted. Lists that do not fit come before runoff over its limit.
 unfoldable pub refusal : Basin → Call → Option Answer
-refusal b c = judged (listsFit b c) (c .runoff)
+refusal b c = orElse (unless (listsFit b c) Lists) (overAnswer (overLimit (c .runoff)))
 
 -- ---- the tally
 

@@ -14,7 +14,8 @@ use Rattle.rules.specs.River.{availableAt, lower, lowest, lesser}
 use Rattle.rules.specs.Returns.{shares}
 use Rattle.rules.specs.Turn.{State, pathOf, called, isShortAt, firstShort, isLowest, firstLowest}
 use Rattle.rules.specs.Month.{returnsAt, onLine, areaAt, MonthRun, month}
-use Rattle.rules.specs.Tally.{Call, Start, freshStart, Tally, begun, standing, afterCalls, pending}
+use Rattle.rules.specs.Tally.{Start, freshStart, Tally, begun, standing, afterCalls, pending}
+use Rattle.rules.specs.Years.{Entry, afterEntries, allCalls}
 use Rattle.rules.specs.Water.{startingStorage, startingDues, Checkpoint, MonthSound, WaterKept}
 use Rattle.rules.specs.Accepted.{Connected, Accepted}
 use Rattle.rules.specs.October.{october}
@@ -96,14 +97,20 @@ pub record FreshFacts (b : Basin) : Type 0 where
 abbrev pub Fresh : Type 0
 Fresh = (b : Basin) → Accepted b → FreshFacts b
 
--- ---- the water sum, each reservoir's storage and the checkpoints, after every list of calls from any possible start, accepted and refused in any mix
+-- ---- a list of month calls and year runs leaves the tally as the month calls do that it counts as
+
+abbrev pub CountsAsCalls : Type 0
+CountsAsCalls = (b : Basin) (t : Tally) (xs : List Entry) → afterEntries b t xs ≡ afterCalls b t (allCalls b t xs)
+
+-- ---- the water sum, each reservoir's storage and the checkpoints, after every list of month calls and year runs from any possible start, accepted and
+-- refused in any mix
 
 abbrev pub Water : Type 0
-Water = (b : Basin) → Accepted b → (s : Start) → Possible b s → (cs : List Call) → WaterKept b (afterCalls b (begun s) cs)
+Water = (b : Basin) → Accepted b → (s : Start) → Possible b s → (xs : List Entry) → WaterKept b (afterEntries b (begun s) xs)
 
 -- the sum is counted from that start
 abbrev pub StartKept : Type 0
-StartKept = (b : Basin) (s : Start) (cs : List Call) → (afterCalls b (begun s) cs) .start ≡ s
+StartKept = (b : Basin) (s : Start) (xs : List Entry) → (afterEntries b (begun s) xs) .start ≡ s
 
 -- ---- checkpoints: in no month does a row have negative flow, or more available flow than flow
 
@@ -139,7 +146,7 @@ PendingBegins = (b : Basin) (s : Start) (w k : ℕ) → k < 12 → pending b s [
 -- ---- what the tally keeps is always possible, and may be started from
 
 abbrev pub AlwaysPossible : Type 0
-AlwaysPossible = (b : Basin) → Accepted b → (s : Start) → Possible b s → (cs : List Call) → Possible b (standing b (afterCalls b (begun s) cs))
+AlwaysPossible = (b : Basin) → Accepted b → (s : Start) → Possible b s → (xs : List Entry) → Possible b (standing b (afterEntries b (begun s) xs))
 
 -- ---- a list that starts where a tally stands goes on as that tally would
 
@@ -148,7 +155,7 @@ pub record SameStanding (b : Basin) (t u : Tally) : Type 0 where
   pub pending-same : (w k : ℕ) → k < 12 → pending b (t .start) (t .months) w k ≡ pending b (u .start) (u .months) w k
 
 abbrev pub Resumed : Type 0
-Resumed = (b : Basin) (t : Tally) (cs : List Call) → SameStanding b (afterCalls b (begun (standing b t)) cs) (afterCalls b t cs)
+Resumed = (b : Basin) (t : Tally) (xs : List Entry) → SameStanding b (afterEntries b (begun (standing b t)) xs) (afterEntries b t xs)
 
 -- ---- the facts asked of a basin are met: by the basin of 01, "One October, whole"
 

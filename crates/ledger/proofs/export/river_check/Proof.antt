@@ -4,12 +4,12 @@ use Prim.Native.Nat.{_≤_}
 use native.Mathlib.Omega.{arith}
 use borrow.Author.Needs.{needs}
 use Rattle.rules.specs.declared.Verdict.{Verdict}
-use Rattle.rules.specs.declared.Verdict.the-variants.{Accepted, Layout, Station, Reservoir, Pattern, Right, Lists, Board, Runoff}
+use Rattle.rules.specs.declared.Verdict.the-variants.{Accepted, Layout, Station, Reservoir, Pattern, Right, Lists, Board, Runoff, Book, Year}
 use Rattle.rules.specs.Answers.{Answer, numberOf}
 use Rattle.ledger.proofs.export.river_check.Statement.{statement}
 use Rattle.ledger.proofs.export.river_check.Tie as tie
 
-number-most : (v : Verdict) → numberOf v ≤ 8
+number-most : (v : Verdict) → numberOf v ≤ 10
 number-most Accepted = omega arith
 number-most Layout = omega arith
 number-most (Station i) = omega arith
@@ -19,6 +19,8 @@ number-most (Right i) = omega arith
 number-most Lists = omega arith
 number-most Board = omega arith
 number-most (Runoff i) = omega arith
+number-most Book = omega arith
+number-most Year = omega arith
 
 check-requires : tie.Need-check-requires
 check-requires c κs = search needs
