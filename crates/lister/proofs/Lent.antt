@@ -23,11 +23,12 @@ use Rattle.month.specs.Run.{CanRunSheet, SheetRan}
 use Rattle.month.proofs.Going.{still-possible, losses-told}
 use Rattle.listing.specs.Listing.{monthText, refusalLine}
 use Rattle.lines.specs.Putting.{mostText, CanList, Put}
-use Rattle.listing.specs.Run.{sheetOf, sheetBytes, Step}
+use Rattle.sheets.specs.Sheets.{sheetOf}
+use Rattle.listing.specs.Run.{sheetBytes, Step}
 use Rattle.listing.specs.Steps.{StepMeets}
 use Rattle.lister.specs.declared.Progress.{Progress}
 use Rattle.lister.specs.Lister.{standing, CanStep, Stepped, Refused}
-use Rattle.lister.proofs.Numbers.{sheet-length}
+use Rattle.sheets.proofs.Sheets.{sheet-length}
 use Rattle.lister.proofs.Stepping.{short-meets, ended-meets, over-meets, month-meets, went-refused, went-on}
 
 -- a step may be told in other words for the same

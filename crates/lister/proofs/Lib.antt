@@ -1,5 +1,4 @@
 pub mod Begun
-pub mod Numbers
 pub mod Stepping
 pub mod Lent
 pub mod Cutting

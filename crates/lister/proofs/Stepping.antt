@@ -22,7 +22,8 @@ use Rattle.places.specs.Report.{fromRiverPlace, fromStoragePlace, reasonPlace, 
 use Rattle.month.specs.Month.{runOf, boardAfter, Outcome, monthSettled}
 use Rattle.month.specs.Run.{SheetRan}
 use Rattle.listing.specs.Listing.{rightLine, rightLines, decimalText, lineOf, endLine, outflowIn, evaporationIn, monthText, refusalLine}
-use Rattle.listing.specs.Run.{sheetOf, sheetBytes, partRefusal, Standing, Step, sheetStep, stepOf}
+use Rattle.sheets.specs.Sheets.{sheetOf}
+use Rattle.listing.specs.Run.{sheetBytes, partRefusal, Standing, Step, sheetStep, stepOf}
 use Rattle.listing.specs.Steps.{StepMeets}
 
 -- ---- the text of a month reads only what the report tells

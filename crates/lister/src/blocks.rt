@@ -8,7 +8,7 @@ ghost use Rattle.listing.specs.Run.{sheetBytes};
 ghost use Rattle.lister.specs.Lister.{CanListBlock, CanListRest, BlockListed, SheetsListed, RestListed, Moves};
 use crate::Listed;
 use crate::Progress;
-use crate::sheets::list_part;
+use crate::parts::list_part;
 use lines::month::MOST_TEXT;
 use sections::STATIONS;
 use sections::section;

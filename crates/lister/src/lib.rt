@@ -1,7 +1,7 @@
 // What a program that lists does between reading and writing: it opens a listing, and lists the months sheet by sheet.
 pub mod blocks;
 pub mod opening;
-pub mod sheets;
+pub mod parts;
 
 // How far a listing has come: the months listed, where its text ends in the lent list, and whether it goes on.
 pub struct Progress {

@@ -30,7 +30,8 @@ use Rattle.filecheck.specs.Check.{checkOf}
 use Rattle.sections.specs.File.{layoutOk}
 use Rattle.answers.proofs.Answers.{no-refusal}
 use Rattle.listing.specs.Listing.{decimalIn, decimalText, rightLine, rightLines, endLine, outflowIn, evaporationIn, monthText, refusalLine, header}
-use Rattle.listing.specs.Run.{sheetOf, partRefusal, sheetStep, stepOf, nextStep, stepsText, begin, monthsText, afterHeader, listingOf}
+use Rattle.sheets.specs.Sheets.{sheetOf}
+use Rattle.listing.specs.Run.{partRefusal, sheetStep, stepOf, nextStep, stepsText, begin, monthsText, afterHeader, listingOf}
 use Rattle.listing.specs.October.{octoberMonths, headLine, sevenLines, overMonths, refusedLine, Listed}
 
 -- by the basin that the file describes

@@ -2,15 +2,14 @@
 use mathlib.Core.Bool.{Bool, true, false}
 use mathlib.Core.List.{List, [], _∷_, _++_}
 use mathlib.Core.Option.{Option, none, some}
-use Prim.Native.Nat.{ℕ, zero, suc, _*_}
+use Prim.Native.Nat.{ℕ, zero, suc}
 use lib.Dec.{eqb}
 use lib.ListN.{length, take, drop}
-use Rattle.general.specs.Tables.{tab}
 use Rattle.rules.specs.Basin.{Basin, rows}
 use Rattle.rules.specs.declared.Verdict.the-variants.{Lists}
 use Rattle.rules.specs.Answers.{Answer, orElse, unless}
 use Rattle.rules.specs.Tally.{overLimit, overAnswer}
-use Rattle.numbers.specs.Bytes.{le32At}
+use Rattle.sheets.specs.Sheets.{sheetSize, sheetOf}
 use Rattle.records.specs.Records.{basinOf}
 use Rattle.boards.specs.Report.{reportOf}
 use Rattle.answers.specs.Answers.{fileRefusal}
@@ -20,13 +19,9 @@ use Rattle.listing.specs.Listing.{monthText, refusalLine, header}
 
 -- ---- the file of months
 
--- a sheet of runoff: a number of four bytes for each station
-unfoldable pub sheetOf : ℕ → List ℕ → List ℕ
-sheetOf n bytes = tab n (λ w. le32At bytes (4 * w))
-
 -- The file is read sheet by sheet, so a part of it is a sheet's bytes, or what is left of them at its end.
 abbrev pub sheetBytes : Basin → ℕ
-sheetBytes b = 4 * rows b
+sheetBytes b = sheetSize (rows b)
 
 -- 6 where a part is no whole sheet, 8 at the first row whose runoff is over its limit
 unfoldable pub partRefusal : Basin → List ℕ → Option Answer

@@ -1,6 +1,6 @@
--- `lister::sheets::decode` meets its contract. Assumes nothing.
-use Rattle.lister.proofs.sheets.decode.Statement.{statement}
-use Rattle.lister.proofs.sheets.decode.Tie as tie
+-- `sheets::decode` meets its contract. Assumes nothing.
+use Rattle.sheets.proofs.decode.Statement.{statement}
+use Rattle.sheets.proofs.decode.Tie as tie
 use mathlib.Core.Path.{_≡_, refl, sym, _∙_}
 use Prim.Native.Nat.{_-_, _≤_}
 use native.Mathlib.Omega.{arith}
@@ -8,8 +8,8 @@ use borrow.Author.Needs.{needs}
 use denote.Ref.{now}
 use lib.ListN.{length, length-set}
 use Rattle.general.proofs.Lists.{Written, written-none, written-more, written-all}
-use Rattle.listing.specs.Run.{sheetOf}
-use Rattle.lister.proofs.Numbers.{sheet-length, sheet-place}
+use Rattle.sheets.specs.Sheets.{sheetOf}
+use Rattle.sheets.proofs.Sheets.{sheet-length, sheet-place}
 
 abbrev Inv-loop : tie.InvT-loop
 Inv-loop bytes runoff₀ n row₀ runoff row = (n ≡ length runoff₀) × (row ≤ n) × (length runoff ≡ length runoff₀) × Written 0 (sheetOf (length runoff₀) bytes) runoff row

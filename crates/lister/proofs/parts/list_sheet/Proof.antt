@@ -1,11 +1,11 @@
--- `lister::sheets::list_sheet` meets its contract. Assumes nothing.
+-- `lister::parts::list_sheet` meets its contract. Assumes nothing.
 use native.Mathlib.Omega.{arith}
 use denote.Ref.{now}
 use lib.ListN.{length}
 use Rattle.lister.proofs.Lent.{may-go, sheet-refused, may-list, sheet-listed}
 use borrow.Author.Needs.{needs}
-use Rattle.lister.proofs.sheets.list_sheet.Statement.{statement}
-use Rattle.lister.proofs.sheets.list_sheet.Tie as tie
+use Rattle.lister.proofs.parts.list_sheet.Statement.{statement}
+use Rattle.lister.proofs.parts.list_sheet.Tie as tie
 
 section-requires : tie.Need-section-requires
 section-requires c κs = search needs

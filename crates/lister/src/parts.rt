@@ -1,11 +1,11 @@
 // One step of a listing: what the next part of the months file adds.
 ghost use mathlib.Core.Path.{_≡_};
-ghost use Prim.Native.Nat.{_+_, _*_, _≤_};
+ghost use Prim.Native.Nat.{_+_, _≤_};
 ghost use lib.ListN.{length};
 ghost use Rattle.rules.specs.Basin.{rows};
 ghost use Rattle.records.specs.Records.{basinOf};
 ghost use Rattle.answers.specs.Answers.{answerOf};
-ghost use Rattle.listing.specs.Run.{sheetOf, sheetBytes};
+ghost use Rattle.listing.specs.Run.{sheetBytes};
 ghost use Rattle.lines.specs.Putting.{mostText};
 ghost use Rattle.lister.specs.Lister.{CanStep, Stepped, Refused};
 use crate::Progress;
@@ -14,24 +14,13 @@ use answers::tell;
 use lines::frame::put_refusal;
 use lines::month::put_month;
 use month::run::run_sheet;
-use numbers::bytes::le32;
 use rules::Verdict;
 use sections::PATTERNS;
 use sections::RESERVOIRS;
 use sections::RIGHTS;
 use sections::STATIONS;
 use sections::section;
-
-// A sheet's bytes as its numbers.
-fn decode(bytes: &[u8], runoff: &mut [u32])
-    requires { ⌜ 4 * length (now runoff) ≤ length (now bytes) ⌝ }
-    ensures { λ _. ⌜ now (runoff .exit) ≡ sheetOf (length (now (runoff .entry))) (now (bytes .entry)) ⌝ }
-{
-    let n = runoff.len();
-    for row in 0..n {
-        runoff[row] = le32(bytes, 4 * row);
-    }
-}
+use sheets::decode;
 
 // A refusal is the last line of a listing.
 fn refuse(out: &mut [u8], from: Progress, answer: Answer) -> Progress

@@ -1,12 +1,12 @@
--- `lister::sheets::list_part` meets its contract. Assumes nothing.
+-- `lister::parts::list_part` meets its contract. Assumes nothing.
 use mathlib.Core.Path.{sym, _∙_}
 use native.Mathlib.Omega.{arith}
 use denote.Ref.{now}
-use Rattle.lister.proofs.Numbers.{taken}
+use lib.Seq.{length-take-le}
 use Rattle.lister.proofs.Lent.{rows-here, few-rows, part-ended, part-short}
 use borrow.Author.Needs.{needs}
-use Rattle.lister.proofs.sheets.list_part.Statement.{statement}
-use Rattle.lister.proofs.sheets.list_part.Tie as tie
+use Rattle.lister.proofs.parts.list_part.Statement.{statement}
+use Rattle.lister.proofs.parts.list_part.Tie as tie
 
 returns : tie.Need-returns
 returns c =
@@ -41,13 +41,13 @@ array-borrow-prefix-runoff c =
 slice-aggregate-list-sheet : tie.Need-slice-aggregate-list-sheet
 slice-aggregate-list-sheet c =
     let s = c .before .before .before .before .before .before .before .before .before .args in
-    taken _ _ (omega (arith, few-rows (now (s .file)) (now (s .part)) (s .from) (now (s .board)) (now (s .report)) (now (s .out)) (c .before .before .before .before .before .before .before .before .before .pre), rows-here (now (s .file)) _ (c .before .before .section .ensures)))
+    sym (length-take-le _ _ (omega (arith, few-rows (now (s .file)) (now (s .part)) (s .from) (now (s .board)) (now (s .report)) (now (s .out)) (c .before .before .before .before .before .before .before .before .before .pre), rows-here (now (s .file)) _ (c .before .before .section .ensures))))
 
 list-sheet-requires : tie.Need-list-sheet-requires
 list-sheet-requires c κs =
     let s = c .before .before .before .before .before .before .before .before .before .before .before .before .args in
     let e = rows-here (now (s .file)) _ (c .before .before .before .before .before .section .ensures) in
-    (c .before .before .before .before .before .before .before .before .before .before .before .before .pre, omega (arith, c .before .before .before .before .if2 .left, e), sym (taken _ _ (omega (arith, few-rows (now (s .file)) (now (s .part)) (s .from) (now (s .board)) (now (s .report)) (now (s .out)) (c .before .before .before .before .before .before .before .before .before .before .before .before .pre), e))) ∙ e)
+    (c .before .before .before .before .before .before .before .before .before .before .before .before .pre, omega (arith, c .before .before .before .before .if2 .left, e), (length-take-le _ _ (omega (arith, few-rows (now (s .file)) (now (s .part)) (s .from) (now (s .board)) (now (s .report)) (now (s .out)) (c .before .before .before .before .before .before .before .before .before .before .before .before .pre), e))) ∙ e)
 
 same-length-2 : tie.Need-same-length-2
 same-length-2 c = search needs
