@@ -12,6 +12,7 @@ use Rattle.rules.specs.Basin.{rows}
 use Rattle.rules.specs.declared.Verdict.the-variants.{Book, Year}
 use Rattle.rules.specs.Answers.{Answer, orElse, unless}
 use Rattle.numbers.specs.Bytes.{le32At}
+use Rattle.sheets.specs.Sheets.{sheetSize}
 use Rattle.records.specs.Records.{basinOf}
 use Rattle.answers.specs.Answers.{fileRefusal}
 
@@ -46,9 +47,9 @@ offsetAt k i = le32At k (entryAt i + 4)
 
 -- ---- the bodies
 
--- A body has twelve months from October, each with a runoff number of four bytes for each station.
+-- A body has a sheet of runoff for each of twelve months, October first.
 abbrev pub bodySize : ℕ → ℕ
-bodySize n = 12 * (4 * n)
+bodySize n = 12 * sheetSize n
 
 -- where body i starts if the bodies follow the table without gaps; with the number of years for i, where the book ends
 unfoldable pub packedAt : ℕ → List ℕ → ℕ → ℕ

@@ -45,7 +45,7 @@ fn offset_at(book: &[u8], i: usize) -> usize
     size(le32(book, entry_at(i) + 4))
 }
 
-// Twelve sheets of a number of four bytes for each station.
+// A sheet for each of twelve months: a number of four bytes for each station.
 fn body_size(rows: usize) -> usize
     requires { ⌜ rows ≤ 64 ⌝ }
     ensures { λ r. ⌜ r ≡ bodySize rows ⌝ }
