@@ -70,6 +70,26 @@ pub fn fill(fd: i32, buf: &mut [u8]) -> Filled
     }
 }
 
+// The bytes of a file, as far as there is room for them. A file that can't be opened or read counts as empty, and the reason goes to standard
+// error.
+pub fn read_whole(path: &[u8], buf: &mut [u8]) -> usize
+    ensures { λ r. ⌜ Counts r (now (buf .exit)) ⌝ }
+{
+    let fd = os::open_read(path);
+    if fd < 0 {
+        os::fail(path);
+        return 0;
+    }
+    let filled = fill(fd, buf);
+    if filled.failed {
+        os::fail(path);
+        libc::close(fd);
+        return 0;
+    }
+    libc::close(fd);
+    filled.count
+}
+
 // One write of the bytes from a place on, tried again where a signal interrupts it. 0: nothing could be written, and errno says why.
 fn write_some(fd: i32, bytes: &[u8]) -> usize
     ensures { λ r. ⌜ Counts r (now (bytes .entry)) ⌝ }

@@ -13,6 +13,13 @@ use lines::month::MOST_TEXT;
 use sections::STATIONS;
 use sections::section;
 
+// The bytes of one sheet.
+pub fn sheet_size(file: &[u8]) -> usize
+    ensures { λ r. ⌜ r ≡ sheetBytes (basinOf (now (file .entry))) ⌝ }
+{
+    4 * (section(file, STATIONS).len() / 8)
+}
+
 // The whole sheets of a block, until one ends the listing or the next month's text might not fit.
 fn list_sheets(
     file: &[u8],
@@ -98,7 +105,7 @@ pub fn list_block(
     requires { ⌜ CanListBlock (now file) (now block) from (now board) (now report) (now out) ⌝ }
     ensures { λ r. ⌜ BlockListed (now (file .entry)) (now (block .entry)) last from 0 (now (board .entry)) (now (out .entry)) (now (board .exit)) (now (out .exit)) r × Moves (basinOf (now (file .entry))) (now (block .entry)) last r ⌝ }
 {
-    let size = 4 * (section(file, STATIONS).len() / 8);
+    let size = sheet_size(file);
     let l = list_sheets(file, block, size, from, board, report, out);
     if !last {
         return l;

@@ -2,7 +2,7 @@
 use mathlib.Core.Path.{sym}
 use borrow.Author.Tests.{not-false}
 use lib.Seq.{length-take-le}
-use Rattle.riverrun.proofs.Keeping.{opened-on}
+use Rattle.lister.proofs.Begun.{opened-on}
 use borrow.Author.Needs.{needs}
 use Rattle.riverrun.proofs.list_months.Statement.{statement}
 use Rattle.riverrun.proofs.list_months.Tie as tie

@@ -1,23 +1,18 @@
 -- `lister::blocks::list_block` meets its contract. Assumes nothing.
-use native.Mathlib.Omega.{arith}
 use borrow.Author.Tests.{not-true, not-false}
 use denote.Ref.{now}
-use Rattle.lister.proofs.Lent.{rows-here}
 use Rattle.lister.proofs.Cutting.{block-sheets, can-rest, block-all}
 use borrow.Author.Needs.{needs}
 use Rattle.lister.proofs.blocks.list_block.Statement.{statement}
 use Rattle.lister.proofs.blocks.list_block.Tie as tie
 
-section-requires : tie.Need-section-requires
-section-requires c κs = search needs
-
-mul-size : tie.Need-mul-size
-mul-size c = search needs
+sheet-size-requires : tie.Need-sheet-size-requires
+sheet-size-requires c κs = search needs
 
 list-sheets-requires : tie.Need-list-sheets-requires
 list-sheets-requires c κs =
     let s = c .before .before .before .before .before .before .before .before .before .args in
-    (c .before .before .before .before .before .before .before .before .before .pre, omega (arith, rows-here (now (s .file)) _ (c .before .before .before .section .ensures)))
+    (c .before .before .before .before .before .before .before .before .before .pre, c .before .before .before .sheet-size .ensures)
 
 same-length : tie.Need-same-length
 same-length c = search needs
@@ -36,7 +31,7 @@ returns c =
 list-rest-requires : tie.Need-list-rest-requires
 list-rest-requires c κs =
     let s = c .before .before .before .before .before .before .before .before .before .before .before .before .before .before .before .before .before .before .before .before .args in
-    can-rest (now (s .file)) (now (s .block)) (s .from) (now (s .board)) (now (s .report)) (now (s .out)) (c .before .before .before .before .before .before .before .before .before .before .before .before .before .before .before .before .before .before .before .before .pre) _ _ _ (c .before .before .before .before .before .before .before .before .before .before .list-sheets .ensures) _ _ (omega (arith, rows-here (now (s .file)) _ (c .before .before .before .before .before .before .before .before .before .before .before .before .before .before .section .ensures))) (search needs) (search needs)
+    can-rest (now (s .file)) (now (s .block)) (s .from) (now (s .board)) (now (s .report)) (now (s .out)) (c .before .before .before .before .before .before .before .before .before .before .before .before .before .before .before .before .before .before .before .before .pre) _ _ _ (c .before .before .before .before .before .before .before .before .before .before .list-sheets .ensures) _ _ (c .before .before .before .before .before .before .before .before .before .before .before .before .before .before .sheet-size .ensures) (search needs) (search needs)
 
 same-length-4 : tie.Need-same-length-4
 same-length-4 c = search needs
@@ -56,8 +51,7 @@ pub list-block-spec : {M : Type 1} → statement M
 list-block-spec =
     tie.close
     (tie.spec
-    section-requires
-    mul-size
+    sheet-size-requires
     list-sheets-requires
     same-length
     same-length-2

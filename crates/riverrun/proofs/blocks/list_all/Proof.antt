@@ -1,7 +1,6 @@
 -- `riverrun::blocks::list_all` meets its contract. Assumes nothing.
 use mathlib.Core.Path.{sym}
-use Prim.Native.Nat.{_-_, _*_, _/_, _%_}
-use lib.ListN.{length}
+use Prim.Native.Nat.{_-_, _%_}
 use native.Mathlib.Nat.{mod-le}
 use native.Mathlib.Omega.{arith}
 use denote.Ref.{now}
@@ -11,14 +10,11 @@ use borrow.Author.Needs.{needs}
 use Rattle.riverrun.proofs.blocks.list_all.Statement.{statement}
 use Rattle.riverrun.proofs.blocks.list_all.Tie as tie
 
-section-requires : tie.Need-section-requires
-section-requires c κs = search needs
-
-mul-size : tie.Need-mul-size
-mul-size c = search needs
+sheet-size-requires : tie.Need-sheet-size-requires
+sheet-size-requires c κs = search needs
 
 rem-full : tie.Need-rem-full
-rem-full c = omega (arith, sheet-some (now (c .before .before .before .before .before .args .file)) _ (c .before .before .before .before .before .pre .0) (c .section .ensures))
+rem-full c = omega (arith, sheet-some (now (c .before .before .before .before .before .args .file)) _ (c .before .before .before .before .before .pre .0) (c .sheet-size .ensures))
 
 sub-full : tie.Need-sub-full
 sub-full c = mod-le 65536 _
@@ -39,7 +35,7 @@ list-blocks-requires : tie.Need-list-blocks-requires
 list-blocks-requires c κs =
     let s = c .before .before .before .before .before .before .before .before .before .before .args in
     let w = c .before .before .before .before .before .before .before .before .before .before .pre in
-    can-file (now (s .file)) _ (w .0) (c .before .before .before .before .before .section .ensures) _ (s .from) _ _ _ (w .1) (w .2) (w .3) (w .4) (w .5) (w .6) (search needs) (take-few (65536 - 65536 % (4 * (length (now (c .before .before .before .before .before .section .result)) / 8))) (c .before .before .before .before .large-buffer .result) (c .before .before .before .before .large-buffer .ensures))
+    can-file (now (s .file)) _ (w .0) (c .before .before .before .before .before .sheet-size .ensures) _ (s .from) _ _ _ (w .1) (w .2) (w .3) (w .4) (w .5) (w .6) (search needs) (take-few (65536 - 65536 % (c .before .before .before .before .before .sheet-size .result)) (c .before .before .before .before .large-buffer .result) (c .before .before .before .before .large-buffer .ensures))
 
 same-length : tie.Need-same-length
 same-length c = search needs
@@ -72,8 +68,7 @@ pub list-all-spec : {M : Type 1} → statement M
 list-all-spec =
     tie.close
     (tie.spec
-    section-requires
-    mul-size
+    sheet-size-requires
     rem-full
     sub-full
     large-buffer-requires

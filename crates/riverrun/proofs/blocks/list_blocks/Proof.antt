@@ -9,7 +9,7 @@ use borrow.Author.Tests.{not-false}
 use denote.Ref.{now}
 use lib.ListN.{length}
 use lib.Seq.{length-take-le}
-use Rattle.riverrun.specs.Going.{Going}
+use Rattle.printing.specs.Going.{Going}
 use Rattle.riverrun.proofs.Keeping.{some-sheet, can-read, fewer}
 use Rattle.riverrun.proofs.blocks.list_blocks.Statement.{statement}
 use Rattle.riverrun.proofs.blocks.list_blocks.Tie as tie

@@ -1,7 +1,7 @@
--- `riverrun::blocks::used_up` meets its contract. Assumes nothing.
+-- `printing::blocks::used_up` meets its contract. Assumes nothing.
 use borrow.Author.Needs.{needs}
-use Rattle.riverrun.proofs.blocks.used_up.Statement.{statement}
-use Rattle.riverrun.proofs.blocks.used_up.Tie as tie
+use Rattle.printing.proofs.blocks.used_up.Statement.{statement}
+use Rattle.printing.proofs.blocks.used_up.Tie as tie
 
 returns : tie.Need-returns
 returns c = search needs

@@ -1,9 +1,9 @@
--- `riverrun::output::make_room` meets its contract. Assumes nothing.
+-- `printing::output::make_room` meets its contract. Assumes nothing.
 use mathlib.Core.Path.{sym}
 use lib.Seq.{length-take-le}
 use borrow.Author.Needs.{needs}
-use Rattle.riverrun.proofs.output.make_room.Statement.{statement}
-use Rattle.riverrun.proofs.output.make_room.Tie as tie
+use Rattle.printing.proofs.output.make_room.Statement.{statement}
+use Rattle.printing.proofs.output.make_room.Tie as tie
 
 sub-if1 : tie.Need-sub-if1
 sub-if1 c = search needs

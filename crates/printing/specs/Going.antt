@@ -1,4 +1,4 @@
--- What the program keeps from block to block of a listing.
+-- What a program keeps from block to block of a listing.
 use mathlib.Core.Bool.{true}
 use mathlib.Core.List.{List}
 use mathlib.Core.Path.{_≡_}
@@ -27,11 +27,3 @@ pub record CanRead (f : List ℕ) (sheet : ℕ) (block : List ℕ) (p : Progress
 pub record Went (f block : List ℕ) (p : Progress) (board report out : List ℕ) (r : Progress) : Type 0 where
   pub going : Going f (r .at) board report out
   pub counted : r .months ≤ p .months + length block
-
--- a listing from its first month on
-pub record CanListFile (f : List ℕ) (sheet : ℕ) (block : List ℕ) (p : Progress) (board report out : List ℕ) : Type 0 where
-  pub going : Going f (p .at) board report out
-  pub bytes : sheet ≡ sheetBytes (basinOf f)
-  pub more : p .more ≡ true
-  pub first : p .months ≡ 0
-  pub few : length block ≤ 65_536

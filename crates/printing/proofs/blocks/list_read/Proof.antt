@@ -1,4 +1,4 @@
--- `riverrun::blocks::list_read` meets its contract. The loop's invariant: the block is listed up to `done`. Assumes nothing.
+-- `printing::blocks::list_read` meets its contract. The loop's invariant: the block is listed up to `done`. Assumes nothing.
 use mathlib.Core.Path.{_≡_, refl, sym, _∙_}
 use Prim.Native.Nat.{_-_}
 use native.Mathlib.Omega.{arith}
@@ -6,9 +6,9 @@ use borrow.Author.Needs.{needs}
 use borrow.Author.Tests.{not-false}
 use denote.Ref.{now}
 use lib.ListN.{length}
-use Rattle.riverrun.proofs.Keeping.{Kept, kept-first, kept-went, can-list, used-within, kept-more, moved}
-use Rattle.riverrun.proofs.blocks.list_read.Statement.{statement}
-use Rattle.riverrun.proofs.blocks.list_read.Tie as tie
+use Rattle.printing.proofs.Keeping.{Kept, kept-first, kept-went, can-list, used-within, kept-more, moved}
+use Rattle.printing.proofs.blocks.list_read.Statement.{statement}
+use Rattle.printing.proofs.blocks.list_read.Tie as tie
 
 abbrev Inv-loop : tie.InvT-loop
 Inv-loop file size block last board₀ report₀ out₀ n p₀ done₀ board report out p done =
