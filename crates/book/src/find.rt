@@ -13,7 +13,8 @@ use rules::Verdict;
 use sections::STATIONS;
 use sections::section;
 
-fn station_count(file: &[u8]) -> usize
+// How many stations the basin has.
+pub fn station_count(file: &[u8]) -> usize
     ensures { λ r. ⌜ r ≡ rows (basinOf (now (file .entry))) ⌝ }
 {
     section(file, STATIONS).len() / 8

@@ -1,0 +1,5 @@
+pub mod Sheets
+pub mod Rest
+pub mod Calls
+pub mod Runs
+pub mod Theorems

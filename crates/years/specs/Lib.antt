@@ -1,0 +1,3 @@
+pub mod Years
+pub mod Theorems
+pub mod Runs
