@@ -18,6 +18,7 @@ mod reasons;
 mod refusals;
 mod returns;
 mod turn;
+pub use refusals::judge_runoff;
 
 /// The month call. Answers number and place, or 0 and the number of rights
 /// short. A refused call changes neither board nor report.
