@@ -43,7 +43,7 @@ enum river_refusal {
     RIVER_BAD_LENGTH = 6,    /* place 0: runoff not one to a station, a board of another length, a report too short, a
                                 list too short for the reports of twelve months */
     RIVER_BAD_BOARD = 7,     /* place 0: a board that no run of months can leave */
-    RIVER_BAD_RUNOFF = 8,    /* the first row whose runoff is above RIVER_MOST_RUNOFF, on the first sheet that has one */
+    RIVER_BAD_RUNOFF = 8,    /* the first row whose runoff is above RIVER_MOST_RUNOFF, in the first such month */
     RIVER_BAD_BOOK = 9,      /* place 0: a runoff book that breaks its layout */
     RIVER_NO_YEAR = 10       /* place 0: a year that the book does not list */
 };
@@ -90,9 +90,9 @@ enum river_refusal {
 #define RIVER_REPORT_LENGTH(rights, stations, reservoirs) RIVER_REPORT_EVAPORATION(rights, stations, reservoirs)
 #define RIVER_REPORT_LONGEST RIVER_REPORT_LENGTH(RIVER_MOST_RIGHTS, RIVER_MOST_STATIONS, RIVER_MOST_RESERVOIRS)
 
-/* The reports of a year stand one after another, each of the least length, in the order of the months that were run. The
-   list has room for twelve of them even where fewer months are left; what lies beyond those that were run stays as it
-   was. */
+/* The reports of a year stand one after another, each of the least length, in the order of the months that were run.
+   The list has room for twelve of them even where fewer months are left; what lies beyond those that were run stays as
+   it was. */
 #define RIVER_REPORTS_LENGTH(rights, stations, reservoirs) (12 * RIVER_REPORT_LENGTH(rights, stations, reservoirs))
 #define RIVER_REPORTS_LONGEST (12 * RIVER_REPORT_LONGEST)
 
@@ -106,10 +106,10 @@ enum river_reason {
 
 /* ---- A runoff book: water years of one basin ---- */
 
-/* All numbers have four bytes, the least first: how many years there are, 0 to RIVER_MOST_YEARS; for each the year, 1800
-   to 2200 and above the one before, and the offset of its body; then the bodies in the same order. A body is twelve
-   sheets from October on, each of one runoff number for each station. The first body follows the contents, each other
-   one the body before it, and with the last the book ends; a book of no year has four bytes. */
+/* All numbers have four bytes, the least first: how many years there are, 0 to RIVER_MOST_YEARS; for each the year,
+   1800 to 2200 and above the one before, and the offset of its body; then the bodies in the same order. A body is
+   twelve sheets from October on, each of one runoff number for each station. The first body follows the contents, each
+   other one the body before it, and with the last the book ends; a book of no year has four bytes. */
 #define RIVER_BOOK_BODY(stations, years, place) \
     (4 + 8 * (size_t)(years) + 48 * (size_t)(stations) * (size_t)(place)) /* the offset of the body at a place */
 #define RIVER_BOOK_LENGTH(stations, years) RIVER_BOOK_BODY(stations, years, years)
