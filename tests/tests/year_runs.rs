@@ -91,11 +91,11 @@ fn a_list_too_short_is_refused() {
     by_each(|calls| {
         for seed in 0..120 {
             let rng = &mut Rng::new(seed);
-            let job = |rng: &mut Rng| Job::of(rng, seed % 12);
-            let length = job(&mut Rng::new(seed)).river.basin.report_length();
+            let job = || Job::of(&mut Rng::new(seed), seed % 12);
+            let length = job().river.basin.report_length();
             for numbers in [0, 1, length, 11 * length, 12 * length - 1] {
-                let mut job = job(&mut Rng::new(seed));
-                job.reports.truncate(numbers.min(12 * length - 1));
+                let mut job = job();
+                job.reports.truncate(numbers);
                 // Neither an impossible board nor runoff over its limit comes before it.
                 if rng.chance(50) {
                     job.board[NEXT_MONTH] = *rng.pick(&[12, u64::MAX]);
@@ -106,7 +106,7 @@ fn a_list_too_short_is_refused() {
                 job.assert_refused(calls, (6, 0));
             }
             for numbers in [0, 1, BOARD - 1, BOARD + 1] {
-                let mut job = job(&mut Rng::new(seed));
+                let mut job = job();
                 job.board.resize(numbers, 0);
                 job.assert_refused(calls, (6, 0));
             }
