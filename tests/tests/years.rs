@@ -5,6 +5,7 @@
 use river_tests::damage::broken_books;
 use river_tests::engine::book::{encode, WaterYear};
 use river_tests::engine::records::MOST_RUNOFF;
+use river_tests::engine::tally::Tally;
 use river_tests::examples::{months_bytes, october, OCTOBER_RUNOFF};
 use river_tests::generate::{any_river, Rng};
 use river_tests::listing::{listing, listing_of_years};
@@ -43,6 +44,20 @@ fn files_and_expected_listing_are_the_years() {
     let sheets = [of_1967, of_1964, of_1967].concat();
     assert_eq!(assert_listing(&text, PROVO, &sheets, &[REFUSAL]), 36);
     assert_eq!(text, years::listing(PROVO, PROVO_BOOK));
+}
+
+/// What `examples/year.c` prints of 1964 is what the tally has: the flow at the last row in
+/// each month, and the lake's storage after September.
+#[test]
+fn the_example_in_c_prints_what_the_tally_has() {
+    let mut tally = Tally::new(PROVO);
+    assert_eq!(tally.run_year(PROVO_BOOK, 1964, 12 * 1160), (0, 12));
+    let mut text = String::new();
+    for (month, past) in tally.months.iter().enumerate() {
+        text += &format!("month {month}: outflow {}\n", past.flow.last().unwrap());
+    }
+    text += &format!("reservoir 0 holds {}\n", tally.storages[0]);
+    assert_eq!(include_str!("../../examples/year.expected"), text);
 }
 
 /// October's runoff in every month.
