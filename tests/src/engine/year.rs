@@ -4,7 +4,7 @@
 use super::board::*;
 use super::book::{find_body, sheet_bytes};
 use super::check::{judge, Judged, Refusal};
-use super::month::{judge_runoff, month_on};
+use super::month::{judge_runoff, run_month};
 use super::network::Network;
 use super::records::*;
 use super::slip::{Slip, Telling};
@@ -57,7 +57,7 @@ pub fn judge_run<'a, T: Telling>(
     let from = if telling.slips(Slip::RunFromOctober) { 0 } else { board[NEXT_MONTH] as usize };
     let left = &body[sheet_bytes(stations) * from..];
     let looked_at = if telling.slips(Slip::SheetsBeforeLookedAt) { body } else { left };
-    if !telling.slips(Slip::RefusedRunBegun) && !telling.slips(Slip::RunStopsAtRefusal) {
+    if judges_first(telling) {
         judge_sheets(telling, stations, looked_at)?;
     }
     Ok(left)
@@ -113,7 +113,8 @@ fn decode<'a>(part: &[u8], room: &'a mut [u32; MOST_STATIONS]) -> &'a [u32] {
     &room[..numbers.len()]
 }
 
-/// The month calls, each with a report of the least length behind the one before.
+/// The month calls, each with a report of the least length behind the one before. All has
+/// been judged: every month leaves a possible board.
 fn run<T: Telling>(
     telling: &T,
     basin: &Judged,
@@ -126,6 +127,13 @@ fn run<T: Telling>(
     let mut room = [0; MOST_STATIONS];
     let mut calls = 0;
     for part in sheets.chunks_exact(sheet_bytes(sections.stations.len())) {
+        let runoff = decode(part, &mut room);
+        if !judges_first(telling) {
+            if let Err(refusal) = judge_runoff(telling, runoff) {
+                let stops = telling.slips(Slip::RunStopsAtRefusal);
+                return if stops { (0, calls as u64) } else { refusal.answer() };
+            }
+        }
         let place = if telling.slips(Slip::ReportsOnEachOther) {
             0
         } else if telling.slips(Slip::ReportsByMonth) {
@@ -134,15 +142,16 @@ fn run<T: Telling>(
             calls
         };
         let report = &mut reports[length * place..length * (place + 1)];
-        let answer = month_on(telling, basin, decode(part, &mut room), board, report);
-        if answer.0 != 0 {
-            // Only a wrong version comes here: all was judged before.
-            return if telling.slips(Slip::RunStopsAtRefusal) { (0, calls as u64) } else { answer };
-        }
+        run_month(telling, basin, runoff, board, report);
         calls += 1;
     }
     if telling.slips(Slip::ReportsTailCleared) {
         reports[length * calls..].fill(0);
     }
     (0, if telling.slips(Slip::TwelveAnswered) { 12 } else { calls as u64 })
+}
+
+/// Whether all sheets are judged before the first month is run.
+fn judges_first<T: Telling>(telling: &T) -> bool {
+    !telling.slips(Slip::RefusedRunBegun) && !telling.slips(Slip::RunStopsAtRefusal)
 }
