@@ -9,6 +9,7 @@
 //! * [`calls`], [`run`]: the calls by each engine, for tests worked out by hand.
 //! * [`cases`], [`runs`], [`years`]: what programs `rivercheck`, `riverrun` and `riveryear`
 //!   are run on, with what they print.
+//! * [`seeds`]: where the long comparisons begin.
 //! * `ffi` (feature `native`): the static library's C functions; [`lent`]: lists for them.
 
 pub mod calls;
@@ -24,4 +25,5 @@ pub mod listing;
 pub mod retold;
 pub mod run;
 pub mod runs;
+pub mod seeds;
 pub mod years;

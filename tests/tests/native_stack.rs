@@ -16,7 +16,7 @@ use std::collections::BTreeMap;
 /// The month's own arrays and what else it needs: a list of 64 numbers more goes beyond.
 /// `include/river.h` names a higher one, so that it need not follow every change.
 const LIMIT: usize = 2560;
-/// What it names. The look-up and the run of a year have a book beside the file.
+/// That one, for the calls that have a book beside the file.
 const LIMIT_WITH_A_BOOK: usize = 4096;
 
 /// The stack that a call is made on, more than any of them needs, the plain ones too.

@@ -89,6 +89,11 @@ impl Compared {
         answer
     }
 
+    /// How many runs there were.
+    pub fn all(&self) -> usize {
+        self.runs.iter().sum()
+    }
+
     pub fn look_up(&mut self, ask: &Ask, at: &dyn Display) -> Answer {
         let Ask { file, book, year, .. } = ask;
         let found = find_year(file, book, *year);
@@ -103,7 +108,7 @@ impl Compared {
         println!(
             "{} year runs, {} turned down: {what}, by number 0 to 10 {:?}; {} look-ups: by number \
              {:?}",
-            sum(&self.runs),
+            self.all(),
             sum(&self.runs[1..]),
             self.runs,
             sum(&self.look_ups),
