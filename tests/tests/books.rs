@@ -56,17 +56,30 @@ fn a_book_of_no_year_has_four_bytes() {
     });
 }
 
-/// A basin of one station, with books written out number by number.
+/// The file of a basin with one station, or two, and nothing else.
+fn bare(stations: &[u32]) -> Vec<u8> {
+    let end = 32 + 8 * stations.len() as u32;
+    let contents = [32, stations.len() as u32, end, 0, end, 0, end, 0];
+    let records = stations.iter().flat_map(|&number| [number, 1]).collect::<Vec<_>>();
+    months_bytes(&[&contents[..], &records].concat())
+}
+
+/// Twelve numbers.
+fn body(first: u32) -> Vec<u32> {
+    (first..first + 12).collect()
+}
+
+/// A book written out number by number.
+fn written(contents: &[u32], bodies: &[Vec<u32>]) -> Vec<u8> {
+    months_bytes(&[contents, &bodies.concat()].concat())
+}
+
 #[test]
 fn books_written_by_hand() {
     by_each(|calls| {
-        let file = months_bytes(&[32, 1, 40, 0, 40, 0, 40, 0, 7, 1]);
-        let body = |first: u32| (first..first + 12).collect::<Vec<u32>>();
-        let book = |contents: &[u32], bodies: &[Vec<u32>]| {
-            months_bytes(&[contents, &bodies.concat()].concat())
-        };
-        let one = book(&[1, 1964, 12], &[body(100)]);
-        let two = book(&[2, 1800, 20, 2200, 68], &[body(100), body(200)]);
+        let file = bare(&[7]);
+        let one = written(&[1, 1964, 12], &[body(100)]);
+        let two = written(&[2, 1800, 20, 2200, 68], &[body(100), body(200)]);
         assert_eq!((calls.find_year)(&file, &one, 1964), (0, 0));
         assert_eq!((calls.find_year)(&file, &two, 1800), (0, 0));
         assert_eq!((calls.find_year)(&file, &two, 2200), (0, 0));
@@ -75,8 +88,7 @@ fn books_written_by_hand() {
         assert_eq!(year_body(&file, &two, 2200), months_bytes(&body(200)));
         assert_eq!(refused(calls, &file, &one, 1963), (10, 0));
         assert_eq!(refused(calls, &file, &two, 1964), (10, 0));
-
-        // Contents and bodies: what is wrong of each is one number.
+        // In each of these contents one or two numbers are wrong.
         for contents in [
             [2, 1799, 20, 2200, 68],
             [2, 1800, 20, 2201, 68],
@@ -89,15 +101,22 @@ fn books_written_by_hand() {
             [1, 1964, 12, 1965, 60],
             [3, 1964, 28, 1965, 76],
         ] {
-            let book = book(&contents, &[body(100), body(200)]);
+            let book = written(&contents, &[body(100), body(200)]);
             assert_eq!(refused(calls, &file, &book, 1964), (9, 0), "{contents:?}");
         }
-        // A basin of two stations asks for bodies twice as long.
-        let of_two = months_bytes(&[32, 2, 48, 0, 48, 0, 48, 0, 7, 1, 8, 1]);
-        assert_eq!(refused(calls, &of_two, &two, 1800), (9, 0));
-        let as_one = book(&[1, 1964, 12], &[body(100), body(200)]);
-        assert_eq!((calls.find_year)(&of_two, &as_one, 1964), (0, 0));
-        assert_eq!(refused(calls, &file, &as_one, 1964), (9, 0));
+    });
+}
+
+/// A basin of two stations asks for bodies twice as long.
+#[test]
+fn a_book_is_for_its_basin() {
+    by_each(|calls| {
+        let two = written(&[2, 1964, 20, 1965, 68], &[body(100), body(200)]);
+        let one = written(&[1, 1964, 12], &[body(100), body(200)]);
+        assert_eq!((calls.find_year)(&bare(&[7]), &two, 1964), (0, 0));
+        assert_eq!(refused(calls, &bare(&[7, 8]), &two, 1964), (9, 0));
+        assert_eq!((calls.find_year)(&bare(&[7, 8]), &one, 1964), (0, 0));
+        assert_eq!(refused(calls, &bare(&[7]), &one, 1964), (9, 0));
     });
 }
 
