@@ -116,6 +116,14 @@ double() {
     done
 }
 
+# Thirteen sheets of three stations, dry, usual and at the limit: over and over they come in other months of each year that follows.
+thirteen_sheets() {
+    for sheet in '2000 700 300' '0 0 0' '5 0 1' '900 900 900' '0 3000 0' '1500 0 0' '1000000000 1000000000 1000000000' \
+        '1 1 1' '0 0 4000' '700 1201 0' '3000 2000 1000' '50 50 50' '0 0 1500'; do
+        numbers $sheet
+    done
+}
+
 october_basin() {
     cp "$samples/october.basin.bin" basin.bin
 }

@@ -1,11 +1,7 @@
 # Cases of riverrun.sh: files of months longer than a block of 64 KiB, against the plain program. Sourced.
 
-# Thirteen sheets of three stations, dry, usual and at the limit, so that no sheet comes in the same month of two years that follow each other:
 # 26,624 months, 319,488 bytes. A block holds 5461 of their sheets, 65,532 bytes.
-for sheet in '2000 700 300' '0 0 0' '5 0 1' '900 900 900' '0 3000 0' '1500 0 0' '1000000000 1000000000 1000000000' \
-    '1 1 1' '0 0 4000' '700 1201 0' '3000 2000 1000' '50 50 50' '0 0 1500'; do
-    numbers $sheet
-done >"$work/long"
+thirteen_sheets >"$work/long"
 double "$work/long" 11
 
 begin long

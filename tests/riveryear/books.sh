@@ -16,6 +16,11 @@ book() {
     for file in "${bodies[@]}"; do head -c "$body" "$file"; done
 }
 
+# October's sheet that many times.
+octobers() {
+    for _ in $(seq "$1"); do cat "$samples/october.months.bin"; done
+}
+
 # One station, number 7, and nothing else: what runs off is all that there is to list.
 bare_basin() {
     numbers 32 1 40 0 40 0 40 0 7 1 >basin.bin

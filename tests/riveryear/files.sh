@@ -135,7 +135,7 @@ gap() {
 broken_book with_a_gap gap
 # Bodies of three stations.
 of_october() {
-    for _ in 1 2 3 4 5 6 7 8 9 10 11 12; do cat "$samples/october.months.bin"; done >sheets
+    octobers 12 >sheets
     book 144 1964 sheets 1965 sheets >book.bin
 }
 broken_book of_another_basin of_october

@@ -1,10 +1,7 @@
 # Cases of riveryear.sh: many years, and the largest files, against the plain program. Sourced.
 
-# Thirteen sheets of three stations, dry, usual and at the limit, over five years.
-for sheet in '2000 700 300' '0 0 0' '5 0 1' '900 900 900' '0 3000 0' '1500 0 0' '1000000000 1000000000 1000000000' \
-    '1 1 1' '0 0 4000' '700 1201 0' '3000 2000 1000' '50 50 50' '0 0 1500'; do
-    numbers $sheet
-done >"$work/sheets"
+# Five years of three stations.
+thirteen_sheets >"$work/sheets"
 double "$work/sheets" 3
 list=()
 for place in 0 1 2 3 4; do

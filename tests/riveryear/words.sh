@@ -108,9 +108,7 @@ wants 0 '' "$header" "$year_1964" 'refused 8 0'
 # The row of the first sheet that has it, here the third of October's three.
 begin over_its_limit_in_a_row
 october_basin
-for _ in 1 2 3 4 5; do cat "$samples/october.months.bin"; done >sheets
-numbers 0 0 1000000001 1000000001 1000000001 1000000001 >>sheets
-for _ in 1 2 3 4 5; do cat "$samples/october.months.bin"; done >>sheets
+{ octobers 5 && numbers 0 0 1000000001 1000000001 0 0 && octobers 5; } >sheets
 book 144 1964 sheets >book.bin
 asks 1964
 run
@@ -119,7 +117,7 @@ wants 0 '' "$header" 'refused 8 2'
 # October's sheet in its first two months, as in riverrun's cases.
 begin october_and_november
 october_basin
-for _ in 1 2 3 4 5 6 7 8 9 10 11 12; do cat "$samples/october.months.bin"; done >sheets
+octobers 12 >sheets
 book 144 1964 sheets >book.bin
 asks 1964
 run

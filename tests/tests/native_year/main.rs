@@ -38,7 +38,7 @@ fn first_board(river: &River, rng: &mut Rng) -> Vec<u64> {
 }
 
 /// A month between two years, by both engines.
-fn compare_month(river: &River, board: &mut Vec<u64>, rng: &mut Rng, at: &str) {
+fn compare_month(river: &River, board: &mut [u64], rng: &mut Rng, at: &str) {
     let (runoff, mut native) = (river.runoff(rng), Lent::of(board));
     let mut report = vec![9; river.basin.report_length()];
     let mut native_report = Lent::of(&report);
