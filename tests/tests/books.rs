@@ -5,6 +5,7 @@ use river_tests::calls::{by_each, Calls};
 use river_tests::damage::*;
 use river_tests::engine::board::BOARD;
 use river_tests::engine::book::{encode, WaterYear};
+use river_tests::engine::tally::Tally;
 use river_tests::engine::{year_body, Answer};
 use river_tests::examples::months_bytes;
 use river_tests::generate::{any_listed, any_river, river_of, Rng, Size};
@@ -41,6 +42,34 @@ fn each_broken_book_is_refused() {
         }
         println!("{} damages of a book, {times} books", names.len());
         assert!(times > 5000);
+    });
+}
+
+/// Damage at random, against the tally, which reads a book by itself: of a year that it
+/// finds there is only the list to complain of.
+#[test]
+fn random_damage_is_answered_as_the_tally_does() {
+    by_each(|calls| {
+        let mut numbers = [0; 11];
+        for seed in 0..200 {
+            let rng = &mut Rng::new(seed);
+            let river = river_of(rng, Size::Small);
+            let years = river.book(rng, seed as usize % 5 + 1);
+            let mut tally = Tally::new(&river.file);
+            for _ in 0..100 {
+                let book = random_book_damage(rng, &encode(&years));
+                let year = any_listed(rng, &years).unwrap();
+                let told = tally.run_year(&book, year, 0);
+                let found = (calls.find_year)(&river.file, &book, year);
+                assert_eq!(found, if told == (6, 0) { (0, 0) } else { told }, "seed {seed}");
+                numbers[found.0 as usize] += 1;
+            }
+        }
+        let [found, broken, unlisted] = [0, 9, 10].map(|number: usize| numbers[number]);
+        println!(
+            "20000 books damaged at random: {found} found, {broken} broken, {unlisted} unlisted"
+        );
+        assert!(found > 500 && broken > 5000 && unlisted > 100);
     });
 }
 
