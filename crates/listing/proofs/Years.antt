@@ -8,14 +8,14 @@ use lib.Dec.{ltb}
 use native.Mathlib.Nat.{mul-le-mul, mul-suc}
 use native.Mathlib.Numerals.{add-one}
 use native.Mathlib.Omega.{arith}
-use lib.ListN.{length, take, drop, replicate, length-drop}
+use lib.ListN.{length, take, drop, length-drop}
 use lib.Seq.{length-take-le, drop-drop}
 use Rattle.general.proofs.Tests.{lt-of, not-lt-of}
 use Rattle.general.proofs.Loops.{step-within}
 use Rattle.places.specs.Board.{monthAt}
 use Rattle.rules.specs.Answers.{Answer}
 use Rattle.rules.specs.Basin.{Basin, rows}
-use Rattle.rules.specs.Tally.{reportLength, overLimit, overAnswer}
+use Rattle.rules.specs.Tally.{overLimit, overAnswer}
 use Rattle.rules.proofs.Answers.{or-first}
 use Rattle.records.specs.Records.{basinOf}
 use Rattle.filecheck.proofs.Accepted.{accepted-facts}
@@ -30,7 +30,7 @@ use Rattle.years.proofs.Theorems.{none-over}
 use Rattle.listing.specs.Listing.{header}
 use Rattle.listing.specs.Run.{sheetBytes, Standing, Step, sheetStep, stepOf, begin}
 use Rattle.listing.specs.Steps.{Place, Walk, textsOf, stepsOf}
-use Rattle.listing.specs.Years.{sheetsListed, yearStep, yearRefusal, nextYear, yearsText, yearsAfterHeader, yearsListing, SheetsCalled, YearMade, partLeft, Later, YearsMade, YearsList, RefusalListsYears}
+use Rattle.listing.specs.Years.{sheetsListed, yearStep, leastList, yearRefusal, nextYear, yearsText, yearsAfterHeader, yearsListing, SheetsCalled, YearMade, partLeft, Later, YearsMade, YearsList, RefusalListsYears}
 use Rattle.listing.proofs.Steps.{step-some, whole-refusal}
 use Rattle.listing.proofs.Blocks.{calls-on}
 
@@ -101,26 +101,23 @@ module _ (b : Basin) (body : List ℕ) (row : 0 < rows b) (whole : length body �
 -- ---- a year
 
 module _ (f book : List ℕ) (s : Standing) (y : ℕ) where
-  abbrev lent : List ℕ
-  lent = replicate (12 * reportLength (basinOf f)) 0
-
   year-found : yearRefusal f book s y ≡ none → Found f book y
   unfolding runRefusal
   year-found e = found-none f book y (or-first (lookupRefusal f book y) _ e)
 
-  year-listed : yearRefusal f book s y ≡ none → (o : Step) → SheetsCalled (basinOf f) s (partLeft f book s y) o → o ≡ sheetsListed (basinOf f) s (sheetsLeft f book y (s .board))
+  year-listed : yearRefusal f book s y ≡ none → (o : Step) → SheetsCalled (basinOf f) s (partLeft f book y (s .board)) o → o ≡ sheetsListed (basinOf f) s (sheetsLeft f book y (s .board))
   unfolding yearSheets
   year-listed e o c =
       c .told
       ∙ walked (basinOf f) (yearPart f book y) (accepted-facts f (year-found e .file) .connected .some-row) (year-found e .size) (stepsOf (c .calls)) (monthAt (s .board)) s (c .to)
-      (none-over f book y (s .board) lent e) (calls-on (basinOf f) (c .calls) _ (c .to) (c .on) (c .made)) (c .used)
+      (none-over f book y (s .board) (leastList (basinOf f)) e) (calls-on (basinOf f) (c .calls) _ (c .to) (c .on) (c .made)) (c .used)
 
-  year-told : (v : Option Answer) → yearRefusal f book s y ≡ v → (o : Step) → YearMade v (basinOf f) s (partLeft f book s y) o → o ≡ yearStep v (basinOf f) s (sheetsLeft f book y (s .board))
+  year-told : (v : Option Answer) → yearRefusal f book s y ≡ v → (o : Step) → YearMade v (basinOf f) s (partLeft f book y (s .board)) o → o ≡ yearStep v (basinOf f) s (sheetsLeft f book y (s .board))
   unfolding yearStep
   year-told none e o m = year-listed e o m
   year-told (some a) e o m = m
 
-  year-is : (o : Step) → YearMade (yearRefusal f book s y) (basinOf f) s (partLeft f book s y) o → o ≡ nextYear f book s y
+  year-is : (o : Step) → YearMade (yearRefusal f book s y) (basinOf f) s (partLeft f book y (s .board)) o → o ≡ nextYear f book s y
   unfolding nextYear
   year-is o m = year-told (yearRefusal f book s y) refl o m
 

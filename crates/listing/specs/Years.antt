@@ -36,9 +36,13 @@ unfoldable pub yearStep : Option Answer → Basin → Standing → List (List �
 yearStep (some a) b s rs = record { text = refusalLine a; standing = s; more = false }
 yearStep none b s rs = sheetsListed b s rs
 
--- what a year run would turn down here, lent a list that is just long enough for twelve reports
+-- a list that is just long enough for twelve reports
+abbrev pub leastList : Basin → List ℕ
+leastList b = replicate (12 * reportLength b) 0
+
+-- what a year run would turn down here, lent such a list
 abbrev pub yearRefusal : List ℕ → List ℕ → Standing → ℕ → Option Answer
-yearRefusal f book s y = runRefusal f book y (s .board) (replicate (12 * reportLength (basinOf f)) 0)
+yearRefusal f book s y = runRefusal f book y (s .board) (leastList (basinOf f))
 
 -- the sheets are those from the month on at which the board stands
 unfoldable pub nextYear : List ℕ → List ℕ → Standing → ℕ → Step
@@ -79,8 +83,8 @@ YearMade (some a) b s part o = o ≡ record { text = refusalLine a; standing = s
 YearMade none b s part o = SheetsCalled b s part o
 
 -- the body of a year from the month on at which the board stands
-abbrev pub partLeft : List ℕ → List ℕ → Standing → ℕ → List ℕ
-partLeft f book s y = drop (sheetBytes (basinOf f) * monthAt (s .board)) (yearPart f book y)
+abbrev pub partLeft : List ℕ → List ℕ → ℕ → List ℕ → List ℕ
+partLeft f book y board = drop (sheetBytes (basinOf f) * monthAt board) (yearPart f book y)
 
 -- what is made of the years after it: nothing where the run has ended
 abbrev pub Later : Bool → List Step → Type 0 → Type 0
@@ -92,7 +96,7 @@ abbrev pub YearsMade : List ℕ → List ℕ → Standing → List ℕ → List 
 YearsMade f book s [] os = os ≡ []
 YearsMade f book s (y ∷ ys) [] = ⊥
 YearsMade f book s (y ∷ ys) (o ∷ os) =
-    YearMade (yearRefusal f book s y) (basinOf f) s (partLeft f book s y) o
+    YearMade (yearRefusal f book s y) (basinOf f) s (partLeft f book y (s .board)) o
     × Later (o .more) os (YearsMade f book (o .standing) ys os)
 
 -- Of an accepted file: the header and the texts of the steps, from the fresh board on, are the listing of the years.
