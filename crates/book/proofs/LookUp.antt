@@ -3,9 +3,9 @@ use mathlib.Core.Path.{_≡_, refl, sym, ap, _∙_}
 use mathlib.Core.Bool.{Bool, true, false}
 use mathlib.Core.List.{List, []}
 use mathlib.Core.Option.{Option, none, some}
-use Prim.Native.Nat.{ℕ, _*_, _≤_, _<_}
+use Prim.Native.Nat.{ℕ, _≤_, _<_}
 use native.Mathlib.Omega.{arith}
-use lib.ListN.{length}
+use lib.ListN.{length, drop, length-take}
 use Rattle.general.specs.Tests.{isSome}
 use Rattle.general.proofs.Search.{first-within, some-of}
 use Rattle.rules.specs.Basin.{rows}
@@ -20,7 +20,7 @@ use Rattle.filecheck.proofs.Accepted.{accepted-facts}
 use Rattle.answers.specs.Answers.{accepted, fileRefusal, settled}
 use Rattle.answers.proofs.Answers.{settled-some, accepted-of, no-refusal}
 use Rattle.answers.proofs.Numbered.{Numbered, clear-none, or-numbered, unless-numbered, file-numbered}
-use Rattle.book.specs.Book.{yearCount, bodySize, bookOk, listedAt, bodyWhere, listedBody, bookRefusal, lookupRefusal, partWhere, yearPart, Kept}
+use Rattle.book.specs.Book.{yearCount, offsetAt, bodySize, bookOk, listedAt, bodyOf, bodyWhere, listedBody, bookRefusal, lookupRefusal, partWhere, yearPart, Kept}
 use Rattle.book.proofs.Bodies.{body-length}
 
 none-of : {A : Type 0} (o : Option A) → isSome o ≡ false → o ≡ none
@@ -31,6 +31,11 @@ none-of (some x) e = absurd (let z : _≡_ {A = ℕ} 0 1 = cc in omega arith)
 pub rows-counted : (f : List ℕ) {st : List ℕ} → st ≡ sectionOf f 0 → rowsOf st ≡ rows (basinOf f)
 unfolding basinOf bodies
 rows-counted f e = ap rowsOf e ∙ sym (rows-are (sectionOf f 0))
+
+body-most : (n : ℕ) (k : List ℕ) (o : Option ℕ) → length (bodyWhere o n k) ≤ bodySize n
+unfolding bodyWhere bodyOf
+body-most n k none = omega arith
+body-most n k (some i) = omega (arith, length-take (bodySize n) (drop (offsetAt k i) k))
 
 module _ (f k : List ℕ) where
   -- ---- file and book
@@ -153,6 +158,15 @@ module _ (f k : List ℕ) where
     empty-some : (a : Answer) → lookupRefusal f k y ≡ some a → yearPart f k y ≡ []
     unfolding yearPart partWhere
     empty-some a e = rw e
+
+    -- no part is longer than a body
+    pub part-most : length (yearPart f k y) ≤ bodySize (rows (basinOf f))
+    unfolding yearPart partWhere
+    part-most = go (lookupRefusal f k y)
+      where
+        go : (v : Option Answer) → length (partWhere v f k y) ≤ bodySize (rows (basinOf f))
+        go none = body-most (rows (basinOf f)) k (listedAt k y)
+        go (some a) = omega arith
 
     -- a part that is not empty is the body of a year that was found
     pub found : (length (yearPart f k y) ≡ 0 → ⊥) → Found

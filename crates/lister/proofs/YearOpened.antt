@@ -1,17 +1,16 @@
 -- A year of a runoff book in a listing. Assumes nothing.
-use mathlib.Core.Bool.{true, false}
+use mathlib.Core.Bool.{true}
 use mathlib.Core.List.{List, [], append-nil}
 use mathlib.Core.Option.{Option, none, some}
-use mathlib.Core.Path.{_≡_, refl, sym, ap, _∙_, subst}
+use mathlib.Core.Path.{_≡_, refl, sym, ap, _∙_}
 use Prim.Native.Nat.{ℕ, _-_, _*_, _≤_, _<_}
 use native.Mathlib.Nat.{mul-le-mul}
 use native.Mathlib.Omega.{arith}
 use lib.ListN.{length, take, drop, length-replicate, length-drop, drop-of-length-le}
 use lib.Seq.{take-all}
-use Rattle.general.proofs.Tests.{absurd-bool, leb-yes}
+use Rattle.general.proofs.Tests.{leb-yes}
 use Rattle.places.specs.Board.{monthAt}
 use Rattle.rules.specs.Answers.{Answer}
-use Rattle.rules.specs.Basin.{rows}
 use Rattle.rules.specs.Tally.{reportLength}
 use Rattle.rules.specs.Years.{roomForYear}
 use Rattle.records.specs.Records.{basinOf}
@@ -21,16 +20,16 @@ use Rattle.answers.specs.Answers.{settled}
 use Rattle.answers.proofs.Answers.{settled-some}
 use Rattle.answers.proofs.Numbered.{clear-none}
 use Rattle.book.specs.Book.{yearPart}
+use Rattle.book.proofs.LookUp.{part-most}
 use Rattle.years.specs.Years.{runRefusal}
 use Rattle.years.specs.Runs.{CanJudge}
 use Rattle.years.proofs.Numbered.{run-numbered}
-use Rattle.lines.specs.Putting.{Put}
 use Rattle.listing.specs.Listing.{refusalLine}
-use Rattle.listing.specs.Run.{sheetBytes, Step}
+use Rattle.listing.specs.Run.{sheetBytes, Standing, Step}
 use Rattle.listing.specs.Years.{leastList, yearRefusal, partLeft}
 use Rattle.lister.specs.declared.Progress.{Progress}
 use Rattle.lister.specs.Lister.{standing, Refused}
-use Rattle.lister.specs.Years.{yearOpening, CanOpenYear, YearOpened}
+use Rattle.lister.specs.Years.{yearOpening, YearOpened}
 
 -- ---- the start of a year
 
@@ -64,7 +63,19 @@ module _ (f book : List ℕ) (y : ℕ) (p : Progress) (board out : List ℕ) whe
           ∙ sym (ap (λ (v : Option Answer). yearOpening v (standing p board)) (clear-none (yearRefusal f book (standing p board) y) (run-numbered f book y board (leastList (basinOf f))) a here n));
     }
 
+-- no month is listed by it
+opening-months : (v : Option Answer) (s : Standing) → (yearOpening v s) .standing .months ≡ s .months
+unfolding yearOpening
+opening-months none s = refl
+opening-months (some a) s = refl
+
+pub opened-months : (f book : List ℕ) (y : ℕ) (p : Progress) (board out out′ : List ℕ) (r : Progress) → YearOpened f book y p board out out′ r → r .months ≡ p .months
+opened-months f book y p board out out′ r w = ap (λ (x : Step). x .standing .months) (w .equation) ∙ opening-months (yearRefusal f book (standing p board) y) (standing p board)
+
 -- ---- the sheets of a year
+
+pub left-most : (f book : List ℕ) (y : ℕ) (board : List ℕ) → CanJudge f board → length (partLeft f book y board) ≤ 3072
+left-most f book y board c = omega (arith, length-drop (sheetBytes (basinOf f) * monthAt board) (yearPart f book y), part-most f book y, accepted-facts f (c .accepted) .few-rows)
 
 module _ (f : List ℕ) (board : List ℕ) (c : CanJudge f board) {size m : ℕ} (es : size ≡ sheetBytes (basinOf f)) (em : m ≡ monthAt board) where
   pub first-small : size * m ≤ 256 * 11

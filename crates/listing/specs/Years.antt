@@ -8,7 +8,7 @@ use Prim.Native.Nat.{ℕ, _*_, _<_}
 use lib.ListN.{length, drop, replicate}
 use Rattle.general.specs.Tables.{All}
 use Rattle.places.specs.Board.{monthAt}
-use Rattle.rules.specs.Basin.{Basin, rows}
+use Rattle.rules.specs.Basin.{Basin}
 use Rattle.rules.specs.Answers.{Answer}
 use Rattle.rules.specs.Tally.{reportLength}
 use Rattle.rules.specs.declared.Verdict.the-variants.{Accepted}

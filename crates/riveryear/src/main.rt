@@ -16,8 +16,8 @@ use places::board::BOARD_LENGTH;
 use places::report::MOST_REPORT;
 use printing::output::write;
 
+mod picked;
 mod words;
-mod years;
 
 // More words than any system hands over, and few enough that their months can be counted.
 const MOST_YEARS: usize = 1099511627776;
@@ -47,7 +47,7 @@ fn list_book(years: usize, file: &[u8], from: Progress, board: &mut [u64], out: 
     let mut space = io::large_buffer();
     let n = read_whole(&name[..k], &mut space);
     let mut report = [0u64; MOST_REPORT];
-    let sent = years::list_years(file, &space[..n], years, from, board, &mut report, out);
+    let sent = picked::list_years(file, &space[..n], years, from, board, &mut report, out);
     if !sent.written {
         return false;
     }
