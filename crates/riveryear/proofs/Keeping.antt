@@ -6,11 +6,7 @@ use Prim.Native.Nat.{ℕ, _+_, _-_, _≤_, _<_}
 use native.Mathlib.Omega.{arith}
 use lib.ListN.{length}
 use Rattle.places.specs.Report.{mostReport}
-use Rattle.places.specs.Board.{boardLength}
-use Rattle.rules.specs.declared.Verdict.the-variants.{Accepted}
 use Rattle.records.specs.Records.{basinOf}
-use Rattle.filecheck.specs.Check.{checkOf}
-use Rattle.boards.specs.Board.{possible}
 use Rattle.years.specs.Runs.{CanJudge}
 use Rattle.lines.specs.Putting.{mostText}
 use Rattle.listing.specs.Run.{sheetBytes}
@@ -20,7 +16,7 @@ use Rattle.lister.specs.Years.{YearOpened}
 use Rattle.lister.proofs.YearOpened.{opened-months, left-most}
 use Rattle.printing.specs.Going.{Going, CanRead, Went}
 use Rattle.printing.proofs.Keeping.{going-first}
-use Rattle.riveryear.specs.Going.{CanListYears, YearWent}
+use Rattle.riveryear.specs.Going.{CanListBook, CanListYears, YearWent}
 
 module _ (f book : List ℕ) (y : ℕ) (p : Progress) (bd rp out : List ℕ) (c : CanListYears f 1 p bd rp out) (at : ℕ) (room : at + mostText ≤ length out)
     (out′ : List ℕ) (eo : length out′ ≡ length out) (r : Progress) (w : YearOpened f book y (record { months = p .months; at = at; more = true }) bd out out′ r) where
@@ -48,9 +44,12 @@ module _ (f book : List ℕ) (y : ℕ) (p : Progress) (bd rp out : List ℕ) (c 
 
 -- ---- year after year
 
-pub can-begin : (f : List ℕ) (years : ℕ) (p : Progress) (bd rp out : List ℕ) → checkOf f ≡ Accepted → length bd ≡ boardLength → possible (basinOf f) bd ≡ true → length out ≡ 65536 → p .at ≤ 65536 → p .months ≡ 0 → p .more ≡ true
-    → years ≤ 1099511627776 → length rp ≡ mostReport → CanListYears f years p bd rp out
-can-begin f years p bd rp out acc size can room within first more few told = record { going = going-first f acc (p .at) bd rp out size can told room within; more = more; counted = omega (arith, first, few) }
+pub can-begin : (f : List ℕ) (years : ℕ) (p : Progress) (bd rp out : List ℕ) → CanListBook f years p bd out → length rp ≡ mostReport → CanListYears f years p bd rp out
+can-begin f years p bd rp out c told = record {
+  going = going-first f (c .accepted) (p .at) bd rp out (c .size) (c .can) told (c .room) (c .within);
+  more = c .more;
+  counted = omega (arith, c .first, c .few);
+}
 
 module _ (f : List ℕ) (years k : ℕ) (h : k < years) (p : Progress) (bd rp out : List ℕ) (c : CanListYears f (years - k) p bd rp out) where
   pub can-list : CanListYears f 1 p bd rp out

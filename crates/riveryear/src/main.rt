@@ -1,14 +1,7 @@
 // Lists the months of picked years of a runoff book: `riveryear BASIN BOOK YEAR ..`. The first year is run on the fresh board of the basin, each
 // other where the one before left the board. All that is printed is made by `lister`; here it is read and written.
-ghost use mathlib.Core.Path.{_≡_};
-ghost use mathlib.Core.Bool.{true};
 ghost use Prim.Native.Nat.{_≤_};
-ghost use lib.ListN.{length};
-ghost use Rattle.rules.specs.declared.Verdict.the-variants.{Accepted};
-ghost use Rattle.filecheck.specs.Check.{checkOf};
-ghost use Rattle.records.specs.Records.{basinOf};
-ghost use Rattle.places.specs.Board.{boardLength};
-ghost use Rattle.boards.specs.Board.{possible};
+ghost use Rattle.riveryear.specs.Going.{mostYears, CanListBook};
 use files::read_whole;
 use lister::Progress;
 use lister::opening::open_listing;
@@ -24,7 +17,7 @@ const MOST_YEARS: usize = 1099511627776;
 
 // How many years are asked for: all words after the two names.
 fn years_asked() -> usize
-    ensures { λ r. ⌜ r ≤ 1099511627776 ⌝ }
+    ensures { λ r. ⌜ r ≤ mostYears ⌝ }
 {
     let count = os::arg_count();
     if count < 3 {
@@ -40,7 +33,7 @@ fn years_asked() -> usize
 // The years of the book, and then what is left to be written. Answers whether all was. The buffer is longer than any book that keeps the
 // layout, so a book that is cut here is refused as the whole would be.
 fn list_book(years: usize, file: &[u8], from: Progress, board: &mut [u64], out: &mut [u8]) -> bool
-    requires { ⌜ (checkOf (now file) ≡ Accepted) × (length (now board) ≡ boardLength) × (possible (basinOf (now file)) (now board) ≡ true) × (length (now out) ≡ 65536) × (from .at ≤ 65536) × (from .months ≡ 0) × (from .more ≡ true) × (years ≤ 1099511627776) ⌝ }
+    requires { ⌜ CanListBook (now file) years from (now board) (now out) ⌝ }
 {
     let mut name = io::buffer();
     let k = os::arg(2, &mut name);

@@ -56,7 +56,7 @@ list-book-requires : tie.Need-list-book-requires
 list-book-requires c κs =
     let more = not-false _ (c .before .before .before .before .if1 .left) in
     let w = opened-on _ _ _ _ _ _ (c .before .before .before .before .before .before .before .before .open-listing .ensures) more in
-    (w .0, search needs, w .1, search needs, search needs, w .2, more, search needs)
+    record { accepted = w .0; size = search needs; can = w .1; room = search needs; within = search needs; first = w .2; more = more; few = search needs }
 
 returns-3 : tie.Need-returns-3
 returns-3 c = search needs

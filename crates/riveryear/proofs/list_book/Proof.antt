@@ -43,8 +43,7 @@ slice-aggregate-list-years-2 c = search needs
 list-years-requires : tie.Need-list-years-requires
 list-years-requires c κs =
     let s = c .before .before .before .before .before .before .before .before .before .before .before .before .before .before .before .before .args in
-    let w = c .before .before .before .before .before .before .before .before .before .before .before .before .before .before .before .before .pre in
-    can-begin (now (s .file)) (s .years) (s .from) (now (s .board)) _ (now (s .out)) (w .0) (w .1) (w .2) (w .3) (w .4) (w .5) (w .6) (w .7) (search needs)
+    can-begin (now (s .file)) (s .years) (s .from) (now (s .board)) _ (now (s .out)) (c .before .before .before .before .before .before .before .before .before .before .before .before .before .before .before .before .pre) (search needs)
 
 same-length : tie.Need-same-length
 same-length c = search needs
