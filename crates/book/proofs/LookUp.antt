@@ -3,14 +3,13 @@ use mathlib.Core.Path.{_≡_, refl, sym, ap, _∙_}
 use mathlib.Core.Bool.{Bool, true, false}
 use mathlib.Core.List.{List, []}
 use mathlib.Core.Option.{Option, none, some}
-use Prim.Native.Nat.{ℕ, _*_, _≤_, _<_}
+use Prim.Native.Nat.{ℕ, _≤_, _<_}
 use native.Mathlib.Omega.{arith}
-use lib.ListN.{length}
+use lib.ListN.{length, drop, length-take}
 use Rattle.general.specs.Tests.{isSome}
 use Rattle.general.proofs.Search.{first-within, some-of}
 use Rattle.rules.specs.Basin.{rows}
-use Rattle.rules.specs.declared.Verdict.{Verdict}
-use Rattle.rules.specs.declared.Verdict.the-variants.{Accepted, Layout, Station, Reservoir, Pattern, Right, Lists, Board, Runoff, Book, Year}
+use Rattle.rules.specs.declared.Verdict.the-variants.{Accepted, Book, Year}
 use Rattle.rules.specs.Answers.{Answer, told, orElse, unless}
 use Rattle.rules.proofs.Answers.{or-first, or-second, unless-none}
 use Rattle.sections.specs.File.{sectionOf}
@@ -18,46 +17,11 @@ use Rattle.records.specs.Records.{rowsOf, bodies, basinOf}
 use Rattle.records.proofs.Rows.{rows-are}
 use Rattle.filecheck.specs.Check.{checkOf}
 use Rattle.filecheck.proofs.Accepted.{accepted-facts}
-use Rattle.answers.specs.Answers.{accepted, verdictRefusal, fileRefusal, settled}
+use Rattle.answers.specs.Answers.{accepted, fileRefusal, settled}
 use Rattle.answers.proofs.Answers.{settled-some, accepted-of, no-refusal}
-use Rattle.book.specs.Book.{yearCount, bodySize, bookOk, listedAt, bodyWhere, listedBody, bookRefusal, lookupRefusal, partWhere, yearPart, Kept}
+use Rattle.answers.proofs.Numbered.{Numbered, clear-none, or-numbered, unless-numbered, file-numbered}
+use Rattle.book.specs.Book.{yearCount, offsetAt, bodySize, bookOk, listedAt, bodyOf, bodyWhere, listedBody, bookRefusal, lookupRefusal, partWhere, yearPart, Kept}
 use Rattle.book.proofs.Bodies.{body-length}
-
--- ---- a refusal has a number
-
-abbrev Numbered : Option Answer → Type 0
-Numbered none = Unit {0}
-Numbered (some a) = a .number ≡ 0 → ⊥
-
--- so an answer of number 0 says that nothing is refused
-clear-none : (o : Option Answer) → Numbered o → (a : Answer) → a ≡ settled o → a .number ≡ 0 → o ≡ none
-unfolding settled
-clear-none none w a e n = refl
-clear-none (some x) w a e n = absurd (w (ap (λ (q : Answer). q .number) (sym e) ∙ n))
-
-unless-numbered : (t : Bool) (v : Verdict) → ((told v) .number ≡ 0 → ⊥) → Numbered (unless t v)
-unfolding unless
-unless-numbered true v h = tt
-unless-numbered false v h = h
-
-or-numbered : (x y : Option Answer) → Numbered x → Numbered y → Numbered (orElse x y)
-unfolding orElse
-or-numbered none y h l = l
-or-numbered (some a) y h l = h
-
-verdict-numbered : (v : Verdict) → Numbered (verdictRefusal v)
-unfolding verdictRefusal
-verdict-numbered Accepted = tt
-verdict-numbered Layout = λ e. omega (arith, e)
-verdict-numbered (Station i) = λ e. omega (arith, e)
-verdict-numbered (Reservoir i) = λ e. omega (arith, e)
-verdict-numbered (Pattern i) = λ e. omega (arith, e)
-verdict-numbered (Right i) = λ e. omega (arith, e)
-verdict-numbered Lists = λ e. omega (arith, e)
-verdict-numbered Board = λ e. omega (arith, e)
-verdict-numbered (Runoff i) = λ e. omega (arith, e)
-verdict-numbered Book = λ e. omega (arith, e)
-verdict-numbered Year = λ e. omega (arith, e)
 
 none-of : {A : Type 0} (o : Option A) → isSome o ≡ false → o ≡ none
 none-of none e = refl
@@ -67,6 +31,11 @@ none-of (some x) e = absurd (let z : _≡_ {A = ℕ} 0 1 = cc in omega arith)
 pub rows-counted : (f : List ℕ) {st : List ℕ} → st ≡ sectionOf f 0 → rowsOf st ≡ rows (basinOf f)
 unfolding basinOf bodies
 rows-counted f e = ap rowsOf e ∙ sym (rows-are (sectionOf f 0))
+
+body-most : (n : ℕ) (k : List ℕ) (o : Option ℕ) → length (bodyWhere o n k) ≤ bodySize n
+unfolding bodyWhere bodyOf
+body-most n k none = omega arith
+body-most n k (some i) = omega (arith, length-take (bodySize n) (drop (offsetAt k i) k))
 
 module _ (f k : List ℕ) where
   -- ---- file and book
@@ -88,8 +57,8 @@ module _ (f k : List ℕ) where
     book-good h = rw (no-refusal f acc, sym judged ∙ h)
 
   book-numbered : Numbered (bookRefusal f k)
-  unfolding bookRefusal fileRefusal
-  book-numbered = or-numbered (verdictRefusal (checkOf f)) (unless (bookOk (rows (basinOf f)) k) Book) (verdict-numbered (checkOf f)) (unless-numbered (bookOk (rows (basinOf f)) k) Book (λ e. omega (arith, e)))
+  unfolding bookRefusal
+  book-numbered = or-numbered (fileRefusal f) (unless (bookOk (rows (basinOf f)) k) Book) (file-numbered f) (unless-numbered (bookOk (rows (basinOf f)) k) Book (λ e. omega (arith, e)))
 
   -- a file and a book that are not refused
   pub record Clear : Type 0 where
@@ -169,7 +138,7 @@ module _ (f k : List ℕ) where
 
     -- ---- what a caller learns from the part alone
 
-    lookup-numbered : Numbered (lookupRefusal f k y)
+    pub lookup-numbered : Numbered (lookupRefusal f k y)
     unfolding lookupRefusal
     lookup-numbered = or-numbered (bookRefusal f k) (unless (isSome (listedAt k y)) Year) book-numbered (unless-numbered (isSome (listedAt k y)) Year (λ e. omega (arith, e)))
 
@@ -189,6 +158,15 @@ module _ (f k : List ℕ) where
     empty-some : (a : Answer) → lookupRefusal f k y ≡ some a → yearPart f k y ≡ []
     unfolding yearPart partWhere
     empty-some a e = rw e
+
+    -- no part is longer than a body
+    pub part-most : length (yearPart f k y) ≤ bodySize (rows (basinOf f))
+    unfolding yearPart partWhere
+    part-most = go (lookupRefusal f k y)
+      where
+        go : (v : Option Answer) → length (partWhere v f k y) ≤ bodySize (rows (basinOf f))
+        go none = body-most (rows (basinOf f)) k (listedAt k y)
+        go (some a) = omega arith
 
     -- a part that is not empty is the body of a year that was found
     pub found : (length (yearPart f k y) ≡ 0 → ⊥) → Found

@@ -9,7 +9,7 @@ use Prim.Native.Nat.{ℕ, zero, suc, _+_, _<_}
 use native.Mathlib.Omega.{arith}
 use lib.ListN.{length, getD, drop, List·getD-append}
 use Rattle.general.specs.Tables.{tab}
-use Rattle.general.proofs.Tests.{eqb-same, eqb-other}
+use Rattle.general.proofs.Tests.{eqb-other}
 use Rattle.general.proofs.Tables.{tab-length}
 use Rattle.rules.specs.Basin.{Right, Basin, noRight, rows}
 use Rattle.rules.specs.Path.{lastRow}
@@ -25,6 +25,7 @@ use Rattle.listing.specs.Listing.{rightLine, rightLines, decimalText, lineOf, e
 use Rattle.sheets.specs.Sheets.{sheetOf}
 use Rattle.listing.specs.Run.{sheetBytes, partRefusal, Standing, Step, sheetStep, stepOf}
 use Rattle.listing.specs.Steps.{StepMeets}
+use Rattle.listing.proofs.Steps.{step-some, whole-refusal}
 
 -- ---- the text of a month reads only what the report tells
 
@@ -53,18 +54,6 @@ module _ (b : Basin) (h : MonthRun) (old : List ℕ) where
 -- ---- which step a part makes
 
 module _ (b : Basin) (s : Standing) (part : List ℕ) where
-  step-some : 0 < length part → stepOf b s part ≡ sheetStep (partRefusal b part) b s (sheetOf (rows b) part)
-  unfolding stepOf
-  step-some = go part
-    where
-      go : (l : List ℕ) → 0 < length l → stepOf b s l ≡ sheetStep (partRefusal b l) b s (sheetOf (rows b) l)
-      go [] h = absurd (omega arith)
-      go (x ∷ l) h = refl
-
-  whole-refusal : length part ≡ sheetBytes b → partRefusal b part ≡ overAnswer (overLimit (sheetOf (rows b) part))
-  unfolding partRefusal unless orElse
-  whole-refusal h = rw (h, eqb-same (sheetBytes b))
-
   short-refusal : (length part ≡ sheetBytes b → ⊥) → partRefusal b part ≡ some (told Lists)
   unfolding partRefusal unless orElse
   short-refusal h = rw (eqb-other (length part) (sheetBytes b) h)
@@ -72,7 +61,7 @@ module _ (b : Basin) (s : Standing) (part : List ℕ) where
   -- a part that is turned down
   pub refused-meets : (a : Answer) → 0 < length part → partRefusal b part ≡ some a → StepMeets b s part (record { text = refusalLine a; standing = s; more = false })
   unfolding sheetStep
-  refused-meets a some-bytes e = sym (step-some some-bytes ∙ rw e)
+  refused-meets a some-bytes e = sym (step-some b s part some-bytes ∙ rw e)
 
   -- a part too short, or none
   pub short-meets : 0 < length part → (length part ≡ sheetBytes b → ⊥) → StepMeets b s part (record { text = refusalLine (told Lists); standing = s; more = false })
@@ -80,7 +69,7 @@ module _ (b : Basin) (s : Standing) (part : List ℕ) where
 
   pub over-meets : (a : Answer) → 0 < length part → length part ≡ sheetBytes b → overAnswer (overLimit (sheetOf (rows b) part)) ≡ some a
       → StepMeets b s part (record { text = refusalLine a; standing = s; more = false })
-  over-meets a some-bytes h e = refused-meets a some-bytes (whole-refusal h ∙ e)
+  over-meets a some-bytes h e = refused-meets a some-bytes (whole-refusal b part h ∙ e)
 
   -- a month
   pub month-meets : (old rp′ bd′ : List ℕ) → 0 < rows b → length part ≡ sheetBytes b → overAnswer (overLimit (sheetOf (rows b) part)) ≡ none
@@ -89,13 +78,13 @@ module _ (b : Basin) (s : Standing) (part : List ℕ) where
       → StepMeets b s part (record { text = monthText b (s .months) rp′ bd′; standing = record { months = suc (s .months); board = bd′ }; more = true })
   unfolding sheetStep
   month-meets old rp′ bd′ row h e er eb =
-      let e′ : partRefusal b part ≡ none = whole-refusal h ∙ e in
+      let e′ : partRefusal b part ≡ none = whole-refusal b part h ∙ e in
       let run : MonthRun = runOf b (sheetOf (rows b) part) (s .board) in
       let et : monthText b (s .months) rp′ bd′ ≡ monthText b (s .months) (reportOf b run []) (boardAfter b (sheetOf (rows b) part) (s .board)) =
       ap (λ (x : List ℕ). monthText b (s .months) x bd′) er
       ∙ text-same b run old row (s .months) bd′
       ∙ ap (λ (x : List ℕ). monthText b (s .months) (reportOf b run []) x) eb in
-      (λ z. record { text = et z; standing = record { months = suc (s .months); board = eb z }; more = true }) ∙ sym (step-some (omega (arith, h, row)) ∙ rw e′)
+      (λ z. record { text = et z; standing = record { months = suc (s .months); board = eb z }; more = true }) ∙ sym (step-some b s part (omega (arith, h, row)) ∙ rw e′)
 
 -- where the file is at its end
 pub ended-meets : (b : Basin) (s : Standing) (part : List ℕ) → length part ≡ 0 → StepMeets b s part (record { text = []; standing = s; more = false })

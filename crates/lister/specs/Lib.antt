@@ -1,1 +1,2 @@
 pub mod Lister
+pub mod Years

@@ -23,7 +23,7 @@ use sections::section;
 use sheets::decode;
 
 // A refusal is the last line of a listing.
-fn refuse(out: &mut [u8], from: Progress, answer: Answer) -> Progress
+pub fn refuse(out: &mut [u8], from: Progress, answer: Answer) -> Progress
     requires { ⌜ from .at + mostText ≤ length (now out) ⌝ }
     ensures { λ r. ⌜ Refused from (answerOf answer) (now (out .entry)) (now (out .exit)) r ⌝ }
 {

@@ -6,6 +6,7 @@ use Prim.Native.Nat.{ℕ, _≤_}
 use native.Mathlib.Omega.{arith}
 use lib.ListN.{length, length-append}
 use lib.Seq.{take-append-le, drop-append-le}
+use Rattle.general.specs.Tables.{All}
 use Rattle.rules.specs.Basin.{Basin}
 use Rattle.listing.specs.Run.{sheetBytes, Step}
 use Rattle.listing.specs.Steps.{StepMeets, Place, Made, after, Walk, textsOf, Call, Called, Calls, stepsOf, CallsList}
@@ -24,9 +25,9 @@ module _ (b : Basin) where
   followed p later = record { standing = p .standing; left = p .left ++ later; more = p .more }
 
   module _ (later : List ℕ) where
-    -- in the file no part is less than a sheet but the last one of all
-    step-whole : (from : Place) (o : Step) → Made b false from o → Made b true (followed from later) o
-    step-whole from o m =
+    -- a whole sheet of the block is one of the file, whether or not the file ends with it
+    step-whole : (last : Bool) (from : Place) (o : Step) → Made b false from o → Made b last (followed from later) o
+    step-whole last from o m =
         let h : sheetBytes b ≤ length (from .left) = m .whole refl in
         record {
           going = m .going;
@@ -34,20 +35,20 @@ module _ (b : Basin) where
           meets = subst (λ (l : List ℕ). StepMeets b (from .standing) l o) (sym (take-append-le (sheetBytes b) (from .left) later h)) (m .meets);
         }
 
-    walk-whole : (from to : Place) (os : List Step) → Walk b false from os to → Walk b true (followed from later) os (followed to later)
-    walk-whole from to [] w = ap (λ (p : Place). followed p later) w
-    walk-whole from to (o ∷ os) w =
+    walk-whole : (last : Bool) (from to : Place) (os : List Step) → Walk b false from os to → Walk b last (followed from later) os (followed to later)
+    walk-whole last from to [] w = ap (λ (p : Place). followed p later) w
+    walk-whole last from to (o ∷ os) w =
         let h : sheetBytes b ≤ length (from .left) = w .0 .whole refl in (
-          step-whole from o (w .0),
-          subst (λ (l : List ℕ). Walk b true (record { standing = o .standing; left = l; more = o .more }) os (followed to later)) (sym (drop-append-le (sheetBytes b) (from .left) later h))
-              (walk-whole (after b from o) to os (w .1)),
+          step-whole last from o (w .0),
+          subst (λ (l : List ℕ). Walk b last (record { standing = o .standing; left = l; more = o .more }) os (followed to later)) (sym (drop-append-le (sheetBytes b) (from .left) later h))
+              (walk-whole last (after b from o) to os (w .1)),
         )
 
   nothing-follows : (p : Place) → p ≡ followed p []
   nothing-follows p = λ z. record { standing = p .standing; left = sym (append-nil (p .left)) z; more = p .more }
 
   walk-in-file : (last : Bool) (later : List ℕ) (from to : Place) (os : List Step) → (last ≡ true → later ≡ []) → Walk b last from os to → Walk b true (followed from later) os (followed to later)
-  walk-in-file false later from to os e w = walk-whole later from to os w
+  walk-in-file false later from to os e w = walk-whole later true from to os w
   walk-in-file true later from to os e w =
       subst (λ (l : List ℕ). Walk b true (followed from l) os (followed to l)) (sym (e refl))
       (subst (λ (p : Place). Walk b true p os (followed to [])) (nothing-follows from) (subst (λ (p : Place). Walk b true from os p) (nothing-follows to) w))
@@ -63,6 +64,18 @@ module _ (b : Basin) where
       walk-join true from (followed (c .0 .to) (c .1)) to (c .0 .steps) (stepsOf cs)
       (subst (λ (l : List ℕ). Walk b true (record { standing = from .standing; left = l; more = from .more }) (c .0 .steps) (followed (c .0 .to) (c .1))) (sym (k .lent)) here)
       (calls-walk cs (followed (c .0 .to) (c .1)) to (w .1))
+
+  -- of calls of which none is said to be the last, each step was lent a whole sheet
+  pub calls-on : (cs : List (Call × List ℕ)) (from to : Place) → All (λ (c : Call × List ℕ). c .0 .last ≡ false) cs → Calls b from cs to → Walk b false from (stepsOf cs) to
+  unfolding stepsOf
+  calls-on [] from to h w = w
+  calls-on (c ∷ cs) from to h w =
+      let k : Called b from (c .1) (c .0) = w .0 in
+      let start : Place = record { standing = from .standing; left = c .0 .block; more = from .more } in
+      let here = walk-whole (c .1) false start (c .0 .to) (c .0 .steps) (subst (λ (t : Bool). Walk b t start (c .0 .steps) (c .0 .to)) (h .0) (k .walk)) in
+      walk-join false from (followed (c .0 .to) (c .1)) to (c .0 .steps) (stepsOf cs)
+      (subst (λ (l : List ℕ). Walk b false (record { standing = from .standing; left = l; more = from .more }) (c .0 .steps) (followed (c .0 .to) (c .1))) (sym (k .lent)) here)
+      (calls-on cs (followed (c .0 .to) (c .1)) to (h .1) (w .1))
 
 pub texts-join : (os os′ : List Step) → textsOf (os ++ os′) ≡ textsOf os ++ textsOf os′
 unfolding textsOf

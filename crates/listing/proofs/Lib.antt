@@ -1,3 +1,4 @@
 pub mod Steps
 pub mod Blocks
+pub mod Years
 pub mod October

@@ -5,13 +5,29 @@ use mathlib.Core.Path.{_≡_, refl, sym, ap, _∙_, subst}
 use Prim.Native.Nat.{ℕ, zero, suc, _<_, _≤_}
 use native.Mathlib.Omega.{arith}
 use lib.ListN.{length, take, drop}
-use Rattle.general.proofs.Tests.{absurd-bool}
-use Rattle.rules.specs.Basin.{Basin}
+use Rattle.general.proofs.Tests.{absurd-bool, eqb-same}
+use Rattle.rules.specs.Basin.{Basin, rows}
+use Rattle.rules.specs.Answers.{orElse, unless}
+use Rattle.rules.specs.Tally.{overLimit, overAnswer}
 use Rattle.records.specs.Records.{basinOf}
 use Rattle.answers.proofs.Answers.{no-refusal}
+use Rattle.sheets.specs.Sheets.{sheetOf}
 use Rattle.listing.specs.Listing.{header}
-use Rattle.listing.specs.Run.{sheetBytes, Standing, Step, stepOf, nextStep, stepsText, begin, monthsText, afterHeader, listingOf}
+use Rattle.listing.specs.Run.{sheetBytes, partRefusal, Standing, Step, sheetStep, stepOf, nextStep, stepsText, begin, monthsText, afterHeader, listingOf}
 use Rattle.listing.specs.Steps.{Place, Walk, textsOf, StepsList, RefusalLists}
+
+-- ---- which step a part makes
+
+pub step-some : (b : Basin) (s : Standing) (part : List ℕ) → 0 < length part → stepOf b s part ≡ sheetStep (partRefusal b part) b s (sheetOf (rows b) part)
+unfolding stepOf
+step-some b s [] h = absurd (omega arith)
+step-some b s (x ∷ part) h = refl
+
+pub whole-refusal : (b : Basin) (part : List ℕ) → length part ≡ sheetBytes b → partRefusal b part ≡ overAnswer (overLimit (sheetOf (rows b) part))
+unfolding partRefusal unless orElse
+whole-refusal b part h = rw (h, eqb-same (sheetBytes b))
+
+-- ---- part after part
 
 -- a part that is not empty leaves less of the file
 drop-most : (n : ℕ) (l : List ℕ) → length (drop n l) ≤ length l

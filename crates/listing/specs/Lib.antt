@@ -1,4 +1,5 @@
 pub mod Listing
 pub mod Run
 pub mod Steps
+pub mod Years
 pub mod October

@@ -2,4 +2,5 @@ pub mod Sheets
 pub mod Rest
 pub mod Calls
 pub mod Runs
+pub mod Numbered
 pub mod Theorems

@@ -67,7 +67,7 @@ module _ (f book : List ℕ) (year : ℕ) (bd old : List ℕ) (run : runRefusal 
   unfolding yearSheets
   calls = can-call f (yearPart f book year) bd old clear
 
-  none-over : firstOver (sheetsLeft f book year bd) ≡ none
+  pub none-over : firstOver (sheetsLeft f book year bd) ≡ none
   none-over = sym (refused-over f (clear .file-ok) (sheetsLeft f book year bd) bd old calls) ∙ or-second (lentRefusal f (runFits (basinOf f) bd old) bd) (made .refused) beside
 
   run-board : (yearOf f book year bd old) .board ≡ boardsAfter (basinOf f) (sheetsLeft f book year bd) bd
