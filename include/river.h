@@ -4,8 +4,9 @@
    pointer. The lists of one call must not overlap: what is promised of a call is promised for lists that lie apart.
    No call allocates, and each needs less than 4096 bytes of stack (measured on x86-64, not proved).
 
-   Volumes are hundredths of an acre-foot. Months go from 0, which is October, to 11. Stations, reservoirs, patterns and
-   rights are counted from 0 in the order of the file, and a station's place in it is its row. */
+   Volumes are hundredths of an acre-foot. Months go from 0, which is October, to 11; a water year is twelve of them,
+   from October on. Stations, reservoirs, patterns and rights are counted from 0 in the order of the file, and a
+   station's place in it is its row. */
 #ifndef RIVER_H
 #define RIVER_H
 
@@ -30,18 +31,21 @@ struct river_sums {
     uint64_t due;
 };
 
-/* The numbers, and the place that goes with each. Of several that apply the lowest is answered. A refused call writes
-   nothing. */
+/* The numbers, and the place that goes with each. Of several that apply the lowest is answered, but for 9 and 10, which
+   come after 5 and before 6. A refused call writes nothing. */
 enum river_refusal {
-    RIVER_ACCEPTED = 0,      /* place 0; of a month, how many rights are short */
+    RIVER_ACCEPTED = 0,      /* place 0; of a month, how many rights are short; of a year, how many months were run */
     RIVER_BAD_LAYOUT = 1,    /* place 0: a file cut short, a count out of range, parts that do not lie end to end */
     RIVER_BAD_STATION = 2,   /* the first row at fault */
     RIVER_BAD_RESERVOIR = 3, /* the first reservoir at fault */
     RIVER_BAD_PATTERN = 4,   /* the first delay pattern at fault */
     RIVER_BAD_RIGHT = 5,     /* the first right at fault */
-    RIVER_BAD_LENGTH = 6,    /* place 0: runoff not one to a station, a board of another length, a report too short */
+    RIVER_BAD_LENGTH = 6,    /* place 0: runoff not one to a station, a board of another length, a report too short, a
+                                list too short for the reports of twelve months */
     RIVER_BAD_BOARD = 7,     /* place 0: a board that no run of months can leave */
-    RIVER_BAD_RUNOFF = 8     /* the first row whose runoff is above RIVER_MOST_RUNOFF */
+    RIVER_BAD_RUNOFF = 8,    /* the first row whose runoff is above RIVER_MOST_RUNOFF, in the first such month */
+    RIVER_BAD_BOOK = 9,      /* place 0: a runoff book that breaks its layout */
+    RIVER_NO_YEAR = 10       /* place 0: a year that the book does not list */
 };
 
 /* ---- How many records a file has, and the most of each, and of runoff ---- */
@@ -55,6 +59,7 @@ enum river_refusal {
 #define RIVER_MOST_RESERVOIRS 8
 #define RIVER_MOST_RIGHTS 256
 #define RIVER_MOST_RUNOFF 1000000000 /* at a row in a month */
+#define RIVER_MOST_YEARS 20          /* in a runoff book */
 
 /* ---- The places of a board, which is all that one month hands to the next ---- */
 
@@ -85,6 +90,12 @@ enum river_refusal {
 #define RIVER_REPORT_LENGTH(rights, stations, reservoirs) RIVER_REPORT_EVAPORATION(rights, stations, reservoirs)
 #define RIVER_REPORT_LONGEST RIVER_REPORT_LENGTH(RIVER_MOST_RIGHTS, RIVER_MOST_STATIONS, RIVER_MOST_RESERVOIRS)
 
+/* The reports of a year stand one after another, each of the least length, in the order of the months that were run.
+   The list has room for twelve of them even where fewer months are left; what lies beyond those that were run stays as
+   it was. */
+#define RIVER_REPORTS_LENGTH(rights, stations, reservoirs) (12 * RIVER_REPORT_LENGTH(rights, stations, reservoirs))
+#define RIVER_REPORTS_LONGEST (12 * RIVER_REPORT_LONGEST)
+
 /* Why a right has what it has, and the station that is named. */
 enum river_reason {
     RIVER_NOT_SHORT = 0,  /* it has all it asked for; 0 */
@@ -92,6 +103,17 @@ enum river_reason {
     RIVER_RIVER_LOW = 2,  /* the river had no more to give: the first station, likewise, where the least was available */
     RIVER_STORAGE_LOW = 3 /* river and reservoir together gave a project right too little; the reservoir's station */
 };
+
+/* ---- A runoff book: water years of one basin ---- */
+
+/* All numbers have four bytes, the least first: how many years there are, 0 to RIVER_MOST_YEARS; for each the year,
+   1800 to 2200 and above the one before, and the offset of its body; then the bodies in the same order. A body is
+   twelve sheets from October on, each of one runoff number for each station. The first body follows the contents, each
+   other one the body before it, and with the last the book ends; a book of no year has four bytes. */
+#define RIVER_BOOK_BODY(stations, years, place) \
+    (4 + 8 * (size_t)(years) + 48 * (size_t)(stations) * (size_t)(place)) /* the offset of the body at a place */
+#define RIVER_BOOK_LENGTH(stations, years) RIVER_BOOK_BODY(stations, years, years)
+#define RIVER_BOOK_LONGEST RIVER_BOOK_LENGTH(RIVER_MOST_STATIONS, RIVER_MOST_YEARS)
 
 /* ---- The calls ---- */
 
@@ -131,6 +153,27 @@ struct river_answer river_month(const uint8_t *file, size_t length, const uint32
        if (sums.number == RIVER_ACCEPTED)
            printf("%llu stored\n", (unsigned long long)sums.storage); */
 struct river_sums river_stock(const uint8_t *file, size_t length, const uint64_t *board, size_t board_length);
+
+/* Looks a year up in a runoff book of the basin. Refusals 1 to 5, 9 and 10; no runoff number is looked at.
+
+       struct river_answer answer = river_find_year(file, length, book, book_length, 1964);
+       if (answer.number == RIVER_NO_YEAR)
+           puts("1964 is not in the book"); */
+struct river_answer river_find_year(const uint8_t *file, size_t length, const uint8_t *book, size_t book_length,
+                                    uint32_t year);
+
+/* Runs the months of a year, with the sheets of a runoff book, from the month that the board has come to up to
+   September: the board is left as after these months, and their reports stand one after another from the beginning of
+   the list. Sheets of months before are not looked at. All months are run or none.
+
+       static uint64_t reports[RIVER_REPORTS_LONGEST];
+       struct river_answer answer = river_run_year(file, length, book, book_length, 1964, board, RIVER_BOARD_LENGTH,
+                                                   reports, RIVER_REPORTS_LONGEST);
+       if (answer.number == RIVER_ACCEPTED)
+           printf("%d months\n", (int)answer.place); */
+struct river_answer river_run_year(const uint8_t *file, size_t length, const uint8_t *book, size_t book_length,
+                                   uint32_t year, uint64_t *board, size_t board_length, uint64_t *reports,
+                                   size_t reports_length);
 
 #ifdef __cplusplus
 }

@@ -6,11 +6,12 @@ set -euo pipefail
 cd "$(dirname "$0")/.."
 export LC_ALL=C # the system's reasons in the words that the cases have
 
-riverrun=$(realpath "${1:-target/bin/riverrun}")
+program=$(realpath "${1:-target/bin/riverrun}")
 samples=$PWD/samples
 parts=$PWD/tests/riverrun
 cargo build --release --offline --quiet --manifest-path tests/Cargo.toml --bin plain_riverrun --bin write_bench
 built=$(realpath "${CARGO_TARGET_DIR:-tests/target}")/release
+plain=$built/plain_riverrun
 work=$(mktemp -d)
 # A writer into a pipe may outlive a case that fails.
 trap 'kill $(jobs -p) 2>/dev/null || true; rm -rf "$work"' EXIT

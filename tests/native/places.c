@@ -1,5 +1,5 @@
-/* That the places of river.h follow one another, from the first to the last of a board and of a report. It is compiled
-   and not run. */
+/* That the places of river.h follow one another, from the first to the last of a board, of a report and of a book. It
+   is compiled and not run. */
 #include <assert.h>
 #include "river.h"
 
@@ -21,6 +21,17 @@ static_assert(RIVER_REPORT_AVAILABLE(5, 0) == RIVER_REPORT_FLOW(5, 0) + 1, "two 
 static_assert(RIVER_REPORT_FLOW(5, 1) == RIVER_REPORT_AVAILABLE(5, 0) + 1, "row after row");
 static_assert(RIVER_REPORT_EVAPORATION(5, 3, 0) == RIVER_REPORT_FLOW(5, 3), "then the reservoirs");
 static_assert(RIVER_REPORT_LENGTH(5, 3, 2) == RIVER_REPORT_EVAPORATION(5, 3, 2), "to the end");
+
+static_assert(RIVER_REPORTS_LENGTH(5, 3, 2) == 12 * RIVER_REPORT_LENGTH(5, 3, 2), "twelve reports");
+static_assert(RIVER_REPORTS_LONGEST ==
+                  RIVER_REPORTS_LENGTH(RIVER_MOST_RIGHTS, RIVER_MOST_STATIONS, RIVER_MOST_RESERVOIRS),
+              "twelve of the longest");
+
+static_assert(RIVER_BOOK_BODY(3, 2, 0) == 4 * (1 + 2 * 2), "a book begins with its contents");
+static_assert(RIVER_BOOK_BODY(3, 2, 1) == RIVER_BOOK_BODY(3, 2, 0) + 4 * 12 * 3, "then body after body");
+static_assert(RIVER_BOOK_LENGTH(3, 2) == RIVER_BOOK_BODY(3, 2, 2), "to the end");
+static_assert(RIVER_BOOK_LENGTH(3, 0) == 4, "a book of no year");
+static_assert(RIVER_BOOK_LONGEST == 4 * (1 + 2 * 20 + 20 * 12 * 64), "twenty years of 64 stations");
 
 static_assert(sizeof(struct river_answer) == 16, "two numbers");
 static_assert(sizeof(struct river_sums) == 32, "four numbers");

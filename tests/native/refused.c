@@ -7,10 +7,12 @@
 #include "../../examples/read_file.h"
 #include "river.h"
 
-enum { STATIONS = 3, RESERVOIRS = 1, RIGHTS = 5 };
+enum { STATIONS = 3, RESERVOIRS = 1, RIGHTS = 5, YEARS = 2 };
 #define REPORT_LENGTH RIVER_REPORT_LENGTH(RIGHTS, STATIONS, RESERVOIRS)
+#define REPORTS_LENGTH RIVER_REPORTS_LENGTH(RIGHTS, STATIONS, RESERVOIRS)
+#define BOOK_LENGTH RIVER_BOOK_LENGTH(STATIONS, YEARS)
 
-static uint8_t *file;
+static uint8_t *file, *book;
 static size_t length;
 
 /* Some numbers, all 99. */
@@ -65,6 +67,87 @@ static void refused(const char *what, size_t runoffs, uint32_t others, const uin
     free(blank);
 }
 
+/* A number of four bytes, the least first. */
+static uint8_t *put(uint8_t *at, uint32_t number)
+{
+    for (int byte = 0; byte < 4; byte++)
+        at[byte] = (uint8_t)(number >> 8 * byte);
+    return at + 4;
+}
+
+/* A book of the years 1964 and 1965, without a drop; in May of 1965 row 2 has more than there can be. */
+static uint8_t *write_book(void)
+{
+    uint8_t *bytes = (uint8_t *)malloc(BOOK_LENGTH);
+    if (bytes == NULL)
+        exit(1);
+    uint8_t *at = put(bytes, YEARS);
+    for (uint32_t place = 0; place < YEARS; place++)
+        at = put(put(at, 1964 + place), (uint32_t)RIVER_BOOK_BODY(STATIONS, YEARS, place));
+    for (int number = 0; number < YEARS * 12 * STATIONS; number++)
+        at = put(at, number == (12 + 7) * STATIONS + 2 ? RIVER_MOST_RUNOFF + 1 : 0);
+    return bytes;
+}
+
+/* A year that is to be refused, on lists that are to stay as they are; of the book so many bytes are lent. */
+static void refused_year(const char *what, size_t bytes, uint32_t year, const uint64_t *board, size_t board_length,
+                         size_t reports_length)
+{
+    uint8_t *lent_book = (uint8_t *)malloc(bytes);
+    uint64_t *lent = numbers(board_length), *reports = numbers(reports_length), *blank = numbers(reports_length);
+    size_t copied = board_length < RIVER_BOARD_LENGTH ? board_length : RIVER_BOARD_LENGTH;
+    if (lent_book == NULL)
+        exit(1);
+    memset(lent_book, 0, bytes);
+    memcpy(lent_book, book, bytes < BOOK_LENGTH ? bytes : BOOK_LENGTH);
+    memcpy(lent, board, copied * sizeof *lent);
+    print_answer(what,
+                 river_run_year(file, length, lent_book, bytes, year, lent, board_length, reports, reports_length));
+    if (memcmp(lent, board, copied * sizeof *lent) != 0 || (board_length > copied && lent[copied] != 99))
+        printf("    the board is changed\n");
+    if (memcmp(reports, blank, reports_length * sizeof *reports) != 0)
+        printf("    the list is changed\n");
+    free(lent_book);
+    free(lent);
+    free(reports);
+    free(blank);
+}
+
+/* Look-ups, and years on the board of November: refused, and then run. */
+static void years(uint64_t *board)
+{
+    print_answer("look-up in no file", river_find_year(NULL, 0, book, BOOK_LENGTH, 1964));
+    print_answer("look-up in no book", river_find_year(file, length, NULL, 0, 1964));
+    print_answer("look-up in part of a book", river_find_year(file, length, book, BOOK_LENGTH - 1, 1964));
+    print_answer("look-up of 1963", river_find_year(file, length, book, BOOK_LENGTH, 1963));
+    print_answer("look-up of 1964", river_find_year(file, length, book, BOOK_LENGTH, 1964));
+    print_answer("look-up of 1965", river_find_year(file, length, book, BOOK_LENGTH, 1965));
+    print_answer("year of no list", river_run_year(NULL, 0, NULL, 0, 1964, NULL, 0, NULL, 0));
+    print_answer("year of no list but the file", river_run_year(file, length, NULL, 0, 1964, NULL, 0, NULL, 0));
+    print_answer("year of a file and a book", river_run_year(file, length, book, BOOK_LENGTH, 1964, NULL, 0, NULL, 0));
+    refused_year("book too short", BOOK_LENGTH - 1, 1964, board, RIVER_BOARD_LENGTH, REPORTS_LENGTH);
+    refused_year("book too long", BOOK_LENGTH + 1, 1964, board, RIVER_BOARD_LENGTH, REPORTS_LENGTH);
+    refused_year("year not listed", BOOK_LENGTH, 1966, board, RIVER_BOARD_LENGTH, REPORTS_LENGTH);
+    refused_year("board of a year too short", BOOK_LENGTH, 1964, board, RIVER_BOARD_LENGTH - 1, REPORTS_LENGTH);
+    refused_year("board of a year too long", BOOK_LENGTH, 1964, board, RIVER_BOARD_LENGTH + 1, REPORTS_LENGTH);
+    refused_year("list too short", BOOK_LENGTH, 1964, board, RIVER_BOARD_LENGTH, REPORTS_LENGTH - 1);
+    refused_year("May over its limit", BOOK_LENGTH, 1965, board, RIVER_BOARD_LENGTH, REPORTS_LENGTH);
+    board[RIVER_BOARD_MONTH] = 12;
+    refused_year("year on a board in month 12", BOOK_LENGTH, 1964, board, RIVER_BOARD_LENGTH, REPORTS_LENGTH);
+    refused_year("the same, May over its limit", BOOK_LENGTH, 1965, board, RIVER_BOARD_LENGTH, REPORTS_LENGTH);
+    refused_year("the same, list too short", BOOK_LENGTH, 1965, board, RIVER_BOARD_LENGTH, REPORTS_LENGTH - 1);
+    board[RIVER_BOARD_MONTH] = 1;
+
+    uint64_t *reports = numbers(REPORTS_LENGTH);
+    print_answer("the rest of 1964", river_run_year(file, length, book, BOOK_LENGTH, 1964, board, RIVER_BOARD_LENGTH,
+                                                    reports, REPORTS_LENGTH));
+    printf("next month %" PRIu64 "\n", board[RIVER_BOARD_MONTH]);
+    for (size_t place = 11 * REPORT_LENGTH; place < REPORTS_LENGTH; place++)
+        if (reports[place] != 99)
+            printf("    the list is changed at %zu\n", place);
+    free(reports);
+}
+
 int main(int count, char **names)
 {
     if (count != 2 || (file = read_file(names[1], &length)) == NULL)
@@ -98,12 +181,16 @@ int main(int count, char **names)
     refused("board too long", STATIONS, 0, board, RIVER_BOARD_LENGTH + 1, REPORT_LENGTH);
     refused("report too short", STATIONS, 0, board, RIVER_BOARD_LENGTH, REPORT_LENGTH - 1);
     refused("runoff over its limit", STATIONS, RIVER_MOST_RUNOFF + 1, board, RIVER_BOARD_LENGTH, REPORT_LENGTH);
+    book = write_book();
+    years(board);
+
     board[RIVER_BOARD_MONTH] = 12;
     refused("board in month 12", STATIONS, 0, board, RIVER_BOARD_LENGTH, REPORT_LENGTH);
     refused("the same, runoff over its limit", STATIONS, UINT32_MAX, board, RIVER_BOARD_LENGTH, REPORT_LENGTH);
     print_stock("stock", board, RIVER_BOARD_LENGTH);
 
     free(file);
+    free(book);
     free(board);
     free(report);
     free(shorter);

@@ -1,20 +1,24 @@
-# How a case of riverrun.sh is run and judged, and what the cases are made of. Sourced.
-# From riverrun.sh: riverrun, the program; samples, the folder of the sample rivers; work, a folder for everything that is written.
+# How a case of riverrun.sh or riveryear.sh is run and judged, and what the cases are made of. Sourced.
+# From there: program, the program; plain, the plain one of the same job; parts, the folder of this file; samples, the folder of the sample
+# rivers; work, a folder for everything that is written.
 
 # ---- how a case is run and judged ----
 
 cases=0
+lines=0
+called=$(basename "$program")
 mkdir "$work/cases"
-# A fresh folder, into which what follows puts the two files.
+# A fresh folder, into which what follows puts the two files. The words that the program is run with are none at first.
 begin() {
     name=$1
+    words=()
     mkdir "$work/cases/$name"
     cd "$work/cases/$name"
 }
 
 # Whoever called this script may have SIGPIPE ignored, which is handed down; a program that hangs is ended. Arguments: those of env.
 launch() {
-    timeout 20 env --default-signal=PIPE "$@" "$riverrun"
+    timeout 20 env --default-signal=PIPE "$@" "$program" "${words[@]}"
 }
 
 run() {
@@ -23,7 +27,7 @@ run() {
 }
 
 not_as_wanted() {
-    echo "riverrun, case $name: $1 (< wanted, > found)" >&2
+    echo "$called, case $name: $1 (< wanted, > found)" >&2
     head -20 "$work/difference" >&2
     exit 1
 }
@@ -43,6 +47,49 @@ wants() {
     shift 2
     if [ $# -gt 0 ]; then printf '%s\n' "$@"; fi >"$work/wanted_out"
     judge "$status_wanted" "$said" "$work/wanted_out"
+}
+
+# The plain program's listing of the files of the folder.
+plain_listing() {
+    "$plain" "${words[@]}" >plain
+}
+
+# Compares the run with it. Arguments: what is to be said on standard error; the last line, where the rules tell it.
+wants_the_plain_listing() {
+    lines=$((lines + $(wc -l <plain)))
+    if [ $# -gt 1 ]; then
+        diff <(echo "$2") <(tail -n 1 "$work/out") >"$work/difference" || not_as_wanted "the last line"
+    fi
+    judge 0 "$1" plain
+}
+
+both() {
+    plain_listing
+    run
+    wants_the_plain_listing '' "$@"
+}
+
+# ---- what is read and written as no plain file shows it ----
+
+# A pipe that a file is written to, a byte with each write.
+trickle() {
+    mkfifo "$1"
+    timeout 20 dd if="$2" of="$1" bs=1 status=none &
+}
+
+# Reads and writes that are interrupted, short, or fail in the middle.
+gcc -O2 -std=c11 -Wall -Wextra -Werror -shared -fPIC "$parts/faulty_io.c" -o "$work/faulty_io.so"
+faulty="LD_PRELOAD=$work/faulty_io.so"
+
+if ! [ -c /dev/full ]; then # to write there would make a plain file of that name
+    echo "$called: there is no device /dev/full to write to" >&2
+    exit 1
+fi
+# Nothing that is printed is taken.
+run_on_a_full_device() {
+    status=0
+    launch >/dev/full 2>"$work/err" || status=$?
+    : >"$work/out"
 }
 
 # ---- files ----
@@ -66,6 +113,14 @@ double() {
     for _ in $(seq "$2"); do
         cat "$1" "$1" >"$1.twice"
         mv "$1.twice" "$1"
+    done
+}
+
+# Thirteen sheets of three stations, dry, usual and at the limit: over and over they come in other months of each year that follows.
+thirteen_sheets() {
+    for sheet in '2000 700 300' '0 0 0' '5 0 1' '900 900 900' '0 3000 0' '1500 0 0' '1000000000 1000000000 1000000000' \
+        '1 1 1' '0 0 4000' '700 1201 0' '3000 2000 1000' '50 50 50' '0 0 1500'; do
+        numbers $sheet
     done
 }
 

@@ -1,33 +1,7 @@
 # Cases of riverrun.sh: files of months longer than a block of 64 KiB, against the plain program. Sourced.
 
-lines=0
-
-# The plain program's listing of the files of the folder.
-plain_listing() {
-    "$built/plain_riverrun" >plain
-}
-
-# Compares the run with it. Arguments: what is to be said on standard error; the last line, where the rules tell it.
-wants_the_plain_listing() {
-    lines=$((lines + $(wc -l <plain)))
-    if [ $# -gt 1 ]; then
-        diff <(echo "$2") <(tail -n 1 "$work/out") >"$work/difference" || not_as_wanted "the last line"
-    fi
-    judge 0 "$1" plain
-}
-
-both() {
-    plain_listing
-    run
-    wants_the_plain_listing '' "$@"
-}
-
-# Thirteen sheets of three stations, dry, usual and at the limit, so that no sheet comes in the same month of two years that follow each other:
 # 26,624 months, 319,488 bytes. A block holds 5461 of their sheets, 65,532 bytes.
-for sheet in '2000 700 300' '0 0 0' '5 0 1' '900 900 900' '0 3000 0' '1500 0 0' '1000000000 1000000000 1000000000' \
-    '1 1 1' '0 0 4000' '700 1201 0' '3000 2000 1000' '50 50 50' '0 0 1500'; do
-    numbers $sheet
-done >"$work/long"
+thirteen_sheets >"$work/long"
 double "$work/long" 11
 
 begin long

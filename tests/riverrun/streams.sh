@@ -2,12 +2,6 @@
 
 # ---- pipes in the place of files ----
 
-# A pipe that a file is written to, a byte with each write.
-trickle() {
-    mkfifo "$1"
-    timeout 20 dd if="$2" of="$1" bs=1 status=none &
-}
-
 begin months_trickle
 october_basin
 cp "$samples/october.months.bin" sheets
@@ -40,9 +34,6 @@ wants 0 '' "$header" "$october" "$november"
 wait $!
 
 # ---- reads and writes that are interrupted, short, or fail in the middle (faulty_io.c) ----
-
-gcc -O2 -std=c11 -Wall -Wextra -Werror -shared -fPIC "$parts/faulty_io.c" -o "$work/faulty_io.so"
-faulty="LD_PRELOAD=$work/faulty_io.so"
 
 for most in 1 7 5000; do
     begin "interrupted_and_$most"
@@ -90,23 +81,15 @@ many() {
     ln -s "$work/many_sheets" months.bin
 }
 
-if ! [ -c /dev/full ]; then # to write there would make a plain file of that name
-    echo "riverrun: there is no device /dev/full to write to" >&2
-    exit 1
-fi
 begin full_device
 october
-status=0
-launch >/dev/full 2>"$work/err" || status=$?
-: >"$work/out"
+run_on_a_full_device
 wants 0 'standard output: No space left on device'
 
 # The reason is told once: the first write that fails ends the run.
 begin full_device_for_many_months
 many
-status=0
-launch >/dev/full 2>"$work/err" || status=$?
-: >"$work/out"
+run_on_a_full_device
 wants 0 'standard output: No space left on device'
 
 begin output_closed

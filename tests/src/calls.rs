@@ -1,4 +1,4 @@
-//! The four calls of the rules, by each engine that is there: the plain one and,
+//! The calls of the rules, by each engine that is there: the plain one and,
 //! under the feature `native`, the static library. A test worked out by hand runs
 //! over all of them, so that its numbers are asked of each.
 
@@ -13,6 +13,8 @@ pub struct Calls {
     pub fresh: fn(&[u8], &mut [u64]) -> Answer,
     pub month: fn(&[u8], &[u32], &mut [u64], &mut [u64]) -> Answer,
     pub stock: fn(&[u8], &[u64]) -> [u64; 4],
+    pub find_year: fn(&[u8], &[u8], u32) -> Answer,
+    pub run_year: fn(&[u8], &[u8], u32, &mut [u64], &mut [u64]) -> Answer,
 }
 
 pub const ENGINES: &[Calls] = &[
@@ -22,6 +24,8 @@ pub const ENGINES: &[Calls] = &[
         fresh: engine::fresh,
         month: engine::month,
         stock: engine::stock,
+        find_year: engine::find_year,
+        run_year: engine::run_year,
     },
     #[cfg(feature = "native")]
     Calls {
@@ -30,6 +34,8 @@ pub const ENGINES: &[Calls] = &[
         fresh: ffi::fresh,
         month: ffi::month,
         stock: ffi::stock,
+        find_year: ffi::find_year,
+        run_year: ffi::run_year,
     },
 ];
 

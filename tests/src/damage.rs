@@ -1,4 +1,4 @@
-//! Basins, boards and contents that break one rule each, with what 01 says of
+//! Basins, boards, contents and books that break one rule each, with what 01 and 02 say of
 //! them; extreme legal values; and random damage without a claim.
 //!
 //! Expected number and place are written down here from the rules, never asked
@@ -10,6 +10,7 @@ use std::sync::LazyLock;
 mod amounts;
 mod base;
 mod boards;
+mod books;
 mod contents;
 mod edits;
 mod kinds;
@@ -23,6 +24,7 @@ mod stations;
 
 pub use base::rich_base;
 pub use boards::{impossible_board, Extreme, IMPOSSIBLE, POSSIBLE};
+pub use books::{broken_books, random_book_damage};
 pub use contents::not_packed;
 pub use edits::Edit;
 pub use legal::LEGAL;

@@ -42,6 +42,24 @@ mod c {
             board: *const u64,
             board_len: usize,
         ) -> Sums;
+        pub fn river_find_year(
+            file: *const u8,
+            len: usize,
+            book: *const u8,
+            book_len: usize,
+            year: u32,
+        ) -> Answer;
+        pub fn river_run_year(
+            file: *const u8,
+            len: usize,
+            book: *const u8,
+            book_len: usize,
+            year: u32,
+            board: *mut u64,
+            board_len: usize,
+            reports: *mut u64,
+            reports_len: usize,
+        ) -> Answer;
     }
 }
 
@@ -89,4 +107,33 @@ pub fn month(file: &[u8], runoff: &[u32], board: &mut [u64], report: &mut [u64])
 pub fn stock(file: &[u8], board: &[u64]) -> [u64; 4] {
     let sums = unsafe { c::river_stock(file.as_ptr(), file.len(), board.as_ptr(), board.len()) };
     [sums.number, sums.place, sums.storage, sums.due]
+}
+
+/// Number and place of the look-up of a year in a book.
+pub fn find_year(file: &[u8], book: &[u8], year: u32) -> Answer {
+    whole(unsafe { c::river_find_year(file.as_ptr(), file.len(), book.as_ptr(), book.len(), year) })
+}
+
+/// Runs what is left of a year on `board` and tells its months in `reports`; answers 0 and
+/// the number of months run, or a refusal.
+pub fn run_year(
+    file: &[u8],
+    book: &[u8],
+    year: u32,
+    board: &mut [u64],
+    reports: &mut [u64],
+) -> Answer {
+    whole(unsafe {
+        c::river_run_year(
+            file.as_ptr(),
+            file.len(),
+            book.as_ptr(),
+            book.len(),
+            year,
+            board.as_mut_ptr(),
+            board.len(),
+            reports.as_mut_ptr(),
+            reports.len(),
+        )
+    })
 }

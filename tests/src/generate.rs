@@ -1,11 +1,13 @@
-//! A seeded generator of valid basins, runoff sheets and possible boards.
+//! A seeded generator of valid basins, runoff sheets, runoff books and possible boards.
 
 use crate::engine::board::{due, most_due, BOARD, MARKS, NEXT_MONTH, STORAGES, TAKEN};
 use crate::engine::records::*;
 
 mod bodies;
+mod books;
 mod rng;
 use bodies::{extreme_table, stations_of, up_to, with_bodies};
+pub use books::{any_listed, years_of};
 pub use rng::Rng;
 
 /// How many of each there are.

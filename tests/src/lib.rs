@@ -1,11 +1,15 @@
 //! A plain telling of the river ledger's rules in ordinary Rust, written from the
 //! rules document ("01", see [`engine`]) alone, for comparison with the checked engine.
 //!
-//! * [`engine`]: check, fresh, month, stock; the tally of a list of months.
-//! * [`listing`]: what program `riverrun` prints; [`retold`]: a listing against the tally.
-//! * [`generate`], [`damage`]: valid basins, and basins that break one rule.
+//! * [`engine`]: check, fresh, month, stock, the years of a book; the tally of a list of
+//!   months.
+//! * [`listing`]: what programs `riverrun` and `riveryear` print; [`retold`]: a listing
+//!   against the tally.
+//! * [`generate`], [`damage`]: valid basins and books, and those that break one rule.
 //! * [`calls`], [`run`]: the calls by each engine, for tests worked out by hand.
-//! * [`cases`]: the files that program `rivercheck` is run on, with what it prints.
+//! * [`cases`], [`runs`], [`years`]: what programs `rivercheck`, `riverrun` and `riveryear`
+//!   are run on, with what they print.
+//! * [`seeds`]: where the long comparisons begin.
 //! * `ffi` (feature `native`): the static library's C functions; [`lent`]: lists for them.
 
 pub mod calls;
@@ -21,3 +25,5 @@ pub mod listing;
 pub mod retold;
 pub mod run;
 pub mod runs;
+pub mod seeds;
+pub mod years;

@@ -1,6 +1,6 @@
 //! What program `riverrun` does: it reads `months.bin` as it comes and prints a
-//! listing (01, One October, whole). Of a file that is not there the caller hands no
-//! bytes.
+//! listing (01, One October, whole); and what `riveryear` does, in [`years`]. Of a file
+//! that is not there the caller hands no bytes.
 
 use crate::engine::board::{fresh, BOARD, DUES, MARKS, STORAGES};
 use crate::engine::check::{judge, Judged};
@@ -11,6 +11,9 @@ use crate::engine::report;
 use crate::engine::slip::Faithful;
 use crate::engine::Answer;
 use std::io::{self, Read, Write};
+
+mod years;
+pub use years::{listing_of_years, run_years};
 
 const HEADER: &[u8] = b"MONTH PERMIT RIVER STORE WHY AT\n";
 

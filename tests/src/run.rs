@@ -3,19 +3,25 @@
 
 use crate::calls::Calls;
 use crate::engine::board::BOARD;
-use crate::engine::records::Basin;
+use crate::engine::records::{Basin, MONTHS};
 use crate::engine::report;
 use crate::engine::tally::Tally;
+use crate::engine::Answer;
 
 pub struct Run {
     calls: &'static Calls,
     file: Vec<u8>,
     pub board: Vec<u64>,
     report: Vec<u64>,
+    /// What a year's run is lent for its reports.
+    reports: Vec<u64>,
     rights: usize,
     rows: usize,
     tally: Tally,
 }
+
+/// What stands in a list before a year is run, and stays beyond its reports.
+const BEFORE: u64 = 77;
 
 impl Run {
     pub fn of(calls: &'static Calls, basin: &Basin) -> Run {
@@ -30,6 +36,7 @@ impl Run {
             file,
             board,
             report: vec![0; basin.report_length()],
+            reports: vec![BEFORE; MONTHS * basin.report_length() + 5],
             rights: basin.rights.len(),
             rows: basin.stations.len(),
         }
@@ -44,6 +51,28 @@ impl Run {
         let stations: Vec<u64> = grants.map(|grant| grant.station as u64).collect();
         assert_eq!(self.grants().iter().map(|grant| grant[3]).collect::<Vec<_>>(), stations);
         answer.1
+    }
+
+    /// Runs what is left of a year, or is refused; answers as the call does. Afterwards
+    /// [`Run::show`] has its months.
+    pub fn year(&mut self, book: &[u8], year: u32) -> Answer {
+        self.reports.fill(BEFORE);
+        let before = self.board.clone();
+        let (board, reports) = (&mut self.board, &mut self.reports);
+        let answer = (self.calls.run_year)(&self.file, book, year, board, reports);
+        assert_eq!(self.tally.run_year(book, year, self.reports.len()), answer);
+        let (number, calls) = answer;
+        let told = if number == 0 { calls as usize * self.report.len() } else { 0 };
+        assert!(self.reports[told..].iter().all(|&number| number == BEFORE));
+        assert!(number == 0 || self.board == before, "a refused run changes nothing");
+        answer
+    }
+
+    /// Makes the report of a month that the last year's run made, counted from 0, the one
+    /// that is told below.
+    pub fn show(&mut self, call: usize) {
+        let length = self.report.len();
+        self.report.copy_from_slice(&self.reports[length * call..length * (call + 1)]);
     }
 
     pub fn stock(&self) -> [u64; 4] {

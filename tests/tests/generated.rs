@@ -1,9 +1,10 @@
 //! What the generator makes is valid, and covers what it should.
 
+use river_tests::engine::book::{encode, WaterYear};
 use river_tests::engine::records::*;
 use river_tests::engine::tally::{path, row_below};
-use river_tests::engine::{board, check, fresh, stock};
-use river_tests::generate::{any_river, largest, river_of, sheet, straight, Rng, Size};
+use river_tests::engine::{board, check, find_year, fresh, stock};
+use river_tests::generate::{any_river, largest, river_of, sheet, straight, years_of, Rng, Size};
 
 #[test]
 fn valid_basins_are_accepted() {
@@ -24,6 +25,32 @@ fn possible_boards_are_accepted() {
         let storages: u64 = river.basin.reservoirs.iter().map(|r| r.start as u64).sum();
         assert_eq!(stock(&river.file, &board), [0, 0, storages, 0], "seed {seed}");
         assert_eq!(board[board::STORAGES..board::MARKS].iter().sum::<u64>(), storages);
+    }
+}
+
+#[test]
+fn books_are_sound_and_of_every_length() {
+    let mut met = [0; 21];
+    for seed in 0..400 {
+        let rng = &mut Rng::new(seed);
+        let river = any_river(rng);
+        let years = river.any_book(rng);
+        met[years.len()] += 1;
+        assert!(years.windows(2).all(|two| two[0].year < two[1].year), "seed {seed}");
+        assert!(years.iter().all(|year| (1800..=2200).contains(&year.year)), "seed {seed}");
+        let numbers = 12 * river.basin.stations.len();
+        for WaterYear { year, runoff } in &years {
+            assert_eq!(runoff.len(), numbers);
+            assert!(runoff.iter().all(|&number| number <= MOST_RUNOFF));
+            assert_eq!(find_year(&river.file, &encode(&years), *year), (0, 0), "seed {seed}");
+        }
+        assert_eq!(encode(&years).len(), 4 + (8 + 4 * numbers) * years.len());
+    }
+    assert!([0, 1, 2, 3, 5, 8, 20].iter().all(|&count: &usize| met[count] > 10), "{met:?}");
+    for (count, first, last) in [(20, 1800, 1819), (20, 2181, 2200)] {
+        let lists = (0..200).map(|seed| years_of(&mut Rng::new(seed), count));
+        let ends = |list: &Vec<u32>| (list[0], list[count - 1]) == (first, last);
+        assert!(lists.filter(ends).count() > 5, "{first}");
     }
 }
 

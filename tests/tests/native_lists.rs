@@ -2,8 +2,9 @@
 //! nowhere, a file at any address, numbers with all their 64 bits. Feature `native`.
 
 use river_tests::engine::board::BOARD;
+use river_tests::engine::book::encode;
 use river_tests::engine::report::LONGEST;
-use river_tests::engine::{fresh, month, stock};
+use river_tests::engine::{fresh, month, run_year, stock};
 use river_tests::ffi;
 use river_tests::generate::{any_river, river_of, Rng, Size};
 use river_tests::lent::Lent;
@@ -53,6 +54,69 @@ fn empty_lists_lead_nowhere() {
                 assert_eq!(ffi::fresh(file, list), (number, 0), "{at}");
                 lent_board.assert_is(&board, "board of fresh", &at);
             }
+        }
+    }
+}
+
+/// The same of a year: file, book, board and list. The file's refusal comes first, then the
+/// book's.
+#[test]
+fn empty_lists_of_a_year_lead_nowhere() {
+    for seed in 0..40 {
+        let rng = &mut Rng::new(seed);
+        let river = any_river(rng);
+        let (years, board) = (river.book(rng, 1), river.possible_board(rng));
+        let (book, year) = (encode(&years), years[0].year);
+        let reports = vec![9; 12 * river.basin.report_length()];
+        for left_out in 1..16 {
+            let [no_file, no_book, no_board, no_reports] =
+                [0, 1, 2, 3].map(|list| left_out >> list & 1 == 1);
+            let at = format!("seed {seed}, left out {left_out:04b}");
+            let file = if no_file { nowhere() } else { &river.file };
+            let book = if no_book { nowhere() } else { &book };
+            let found = match (no_file, no_book) {
+                (true, _) => (1, 0),
+                (false, true) => (9, 0),
+                (false, false) => (0, 0),
+            };
+            assert_eq!(ffi::find_year(file, book, year), found, "{at}");
+            let (mut lent_board, mut lent_reports) = (Lent::of(&board), Lent::of(&reports));
+            let answer = ffi::run_year(
+                file,
+                book,
+                year,
+                if no_board { nowhere_to_write() } else { lent_board.list() },
+                if no_reports { nowhere_to_write() } else { lent_reports.list() },
+            );
+            assert_eq!(answer, if found.0 == 0 { (6, 0) } else { found }, "{at}");
+            lent_board.assert_is(&board, "board", &at);
+            lent_reports.assert_is(&reports, "list", &at);
+        }
+    }
+}
+
+/// A book is bytes too, at any address beside the file's.
+#[test]
+fn a_book_lies_at_any_address() {
+    for seed in 0..20 {
+        let rng = &mut Rng::new(seed);
+        let river = any_river(rng);
+        let (years, board) = (river.book(rng, 2), river.possible_board(rng));
+        let (book, year) = (encode(&years), years[1].year);
+        let reports = vec![9; 12 * river.basin.report_length()];
+        let (mut plain_board, mut plain_reports) = (board.clone(), reports.clone());
+        let plain = run_year(&river.file, &book, year, &mut plain_board, &mut plain_reports);
+        assert_eq!(plain.0, 0);
+        for shift in 0..9 {
+            let at = format!("seed {seed}, moved by {shift}");
+            let moved = [&vec![0xff; shift], &book[..], &[0xff; 9]].concat();
+            let book = &moved[shift..][..book.len()];
+            assert_eq!(ffi::find_year(&river.file, book, year), (0, 0), "{at}");
+            let (mut lent_board, mut lent_reports) = (Lent::of(&board), Lent::of(&reports));
+            let (lists, file) = ((lent_board.list(), lent_reports.list()), &river.file);
+            assert_eq!(ffi::run_year(file, book, year, lists.0, lists.1), plain, "{at}");
+            lent_board.assert_is(&plain_board, "board", &at);
+            lent_reports.assert_is(&plain_reports, "list", &at);
         }
     }
 }

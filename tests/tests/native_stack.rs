@@ -1,12 +1,13 @@
-//! The stack that the static library's calls need, and the plain engine's month beside
-//! them. Feature `native`; counted on x86-64 alone.
+//! The stack that the static library's calls need, and the plain engine's month and year
+//! beside them. Feature `native`; counted on x86-64 alone.
 #![cfg(target_arch = "x86_64")]
 
 use river_tests::damage::{rich_base, BROKEN};
 use river_tests::engine::board::BOARD;
+use river_tests::engine::book::{encode, WaterYear};
 use river_tests::engine::records::{Basin, MOST_STATIONS};
 use river_tests::engine::report::LONGEST;
-use river_tests::engine::{fresh, month};
+use river_tests::engine::{fresh, month, run_year};
 use river_tests::ffi;
 use river_tests::generate::{any_river, largest, sheet, straight, Rng};
 use std::arch::asm;
@@ -15,11 +16,22 @@ use std::collections::BTreeMap;
 /// The month's own arrays and what else it needs: a list of 64 numbers more goes beyond.
 /// `include/river.h` names a higher one, so that it need not follow every change.
 const LIMIT: usize = 2560;
+/// That one, for the calls that have a book beside the file.
+const LIMIT_WITH_A_BOOK: usize = 4096;
 
-/// The stack that a call is made on, more than any of them needs.
+/// The stack that a call is made on, more than any of them needs, the plain ones too.
 const STACK: usize = 1 << 16;
 
 const PLAIN: &str = "plain month";
+const PLAIN_YEAR: &str = "plain run_year";
+
+fn limit(name: &str) -> usize {
+    match name {
+        PLAIN | PLAIN_YEAR => STACK,
+        "find_year" | "run_year" => LIMIT_WITH_A_BOOK,
+        _ => LIMIT,
+    }
+}
 
 /// Entered on the other stack.
 extern "sysv64" fn enter(call: &mut &mut dyn FnMut()) {
@@ -72,6 +84,24 @@ impl Deepest {
         self.see(PLAIN, || _ = month(file, runoff, &mut lent, &mut told));
     }
 
+    /// A year that a book lists, and one that it does not.
+    fn see_book(&mut self, file: &[u8], years: &[WaterYear], board: &[u64]) {
+        let (mut lent, mut told) = (board.to_vec(), vec![0; 12 * LONGEST]);
+        let book = encode(years);
+        for year in years.iter().map(|year| year.year).chain([1799]) {
+            self.see("find_year", || _ = ffi::find_year(file, &book, year));
+            // Each call is made twice, and a year that was run leaves another one to run.
+            self.see("run_year", || {
+                lent.copy_from_slice(board);
+                ffi::run_year(file, &book, year, &mut lent, &mut told);
+            });
+            self.see(PLAIN_YEAR, || {
+                lent.copy_from_slice(board);
+                run_year(file, &book, year, &mut lent, &mut told);
+            });
+        }
+    }
+
     /// Two years of a basin, from its fresh board.
     fn see_years(&mut self, basin: &Basin, tenths: u64) {
         let (file, rng) = (basin.encode(), &mut Rng::new(3));
@@ -82,6 +112,9 @@ impl Deepest {
             self.see_all(&file, &runoff, &board);
             assert_eq!(month(&file, &runoff, &mut board, &mut [0; LONGEST]).0, 0);
         }
+        let sheets = |rng: &mut Rng| (0..12).flat_map(|_| sheet(rng, basin, tenths)).collect();
+        let years = [1964, 1967].map(|year| WaterYear { year, runoff: sheets(rng) });
+        self.see_book(&file, &years, &board);
     }
 }
 
@@ -99,12 +132,15 @@ fn a_call_needs_little_stack() {
     let rng = &mut Rng::new(31);
     for _ in 0..300 {
         let river = any_river(rng);
-        deepest.see_all(&river.file, &river.runoff(rng), &river.possible_board(rng));
+        let board = river.possible_board(rng);
+        deepest.see_all(&river.file, &river.runoff(rng), &board);
+        deepest.see_book(&river.file, &river.book(rng, 2), &board);
     }
     for &(_, _, edit) in BROKEN.iter() {
         let mut basin = rich_base();
         edit(&mut basin, rng);
         deepest.see_all(&basin.encode(), &[0; MOST_STATIONS], &[0; BOARD]);
+        deepest.see_book(&basin.encode(), &[], &[0; BOARD]);
     }
     for basin in [largest(), straight(MOST_STATIONS)] {
         for tenths in [3, 100] {
@@ -113,6 +149,6 @@ fn a_call_needs_little_stack() {
     }
     println!("bytes of stack: {:?}", deepest.0);
     for (name, bytes) in deepest.0 {
-        assert!(bytes < LIMIT || name == PLAIN, "{name} needs {bytes} bytes of stack");
+        assert!(bytes < limit(name), "{name} needs {bytes} bytes of stack");
     }
 }

@@ -1,5 +1,7 @@
 pub mod Tally
 pub mod Telling
+pub mod Months
+pub mod Years
 pub mod Account
 pub mod Runs
 pub mod Theorems

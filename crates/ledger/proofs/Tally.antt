@@ -14,13 +14,13 @@ use Rattle.general.proofs.Tests.{ltb-yes, ltb-no, only-le}
 use Rattle.general.proofs.Tables.{tab-length, tab-at, tab-past, tab-same}
 use Rattle.rules.specs.Basin.{Basin, rows, reservoirAt, rightAt}
 use Rattle.general.specs.Tests.{bit}
-use Rattle.rules.specs.Month.{MonthRun, month}
+use Rattle.rules.specs.Month.{Carried, MonthRun, month}
 use Rattle.rules.specs.Tally.{Call, Tally, freshCarried, freshStart, begun, pending, arriving, nextRun, accept, standing}
 use Rattle.rules.specs.Accepted.{Accepted}
 use Rattle.rules.specs.Theorems.{mostDue, Possible}
 use Rattle.rules.proofs.Possible.{capped-of, fresh-possible}
 use Rattle.rules.proofs.Pending.{pending-on, pending-ends, pending-begins}
-use Rattle.places.specs.Board.{duePlace, boardLength, storageAt, marksAt, takenAt, dueAt}
+use Rattle.places.specs.Board.{duePlace, boardLength, monthAt, storageAt, marksAt, takenAt, dueAt}
 use Rattle.boards.specs.Board.{carriedOf, boardOf, possible}
 use Rattle.fresh.specs.Fresh.{freshBoard}
 use Rattle.month.specs.Month.{runOf, dueAfter, boardAfter}
@@ -46,6 +46,12 @@ module _ (b : Basin) (acc : Accepted b) (t : Tally) (p : Possible b (standing b 
   pub tally-possible : possible b (tallyBoard b t) ≡ true
   unfolding tallyBoard standing
   tally-possible = held.board-possible b (t .carried) owed (p .month-in-year) (capped-of b (standing b t) p) (λ w k h l. p .due-most w (suc k) (omega arith) (omega arith))
+
+  -- ---- the month at which it stands
+
+  pub tally-month : monthAt (tallyBoard b t) ≡ (t .carried) .m
+  unfolding tallyBoard carriedOf
+  tally-month = ap (λ (c : Carried). c .m) (read-back b acc (t .carried) owed counted)
 
   -- ---- the month that it runs
 

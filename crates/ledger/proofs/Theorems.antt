@@ -4,7 +4,7 @@ use mathlib.Core.List.{List}
 use Prim.Native.Nat.{ℕ}
 use Rattle.rules.specs.Tally.{Start}
 use Rattle.filecheck.proofs.Accepted.{accepted-facts}
-use Rattle.ledger.specs.Account.{TellsAll, Accounted, Claim, FreshBoard, FreshStarts, FromFresh, Checkpoints, OneReport, OneRun}
+use Rattle.ledger.specs.Account.{TellsAll, Accounted, Claim, FreshBoard, FreshStarts, FromFresh, Checkpoints, OneReport, OneYear, OneRun}
 use Rattle.ledger.proofs.Telling.{all-told}
 use Rattle.ledger.proofs.Account.{accounted, fresh-facts, board-checkpoints}
 use Rattle.ledger.proofs.Runs.{only-run}
@@ -30,6 +30,9 @@ checkpoints f board runoff e n can = board-checkpoints f e (accepted-facts f e) 
 
 pub one-report : OneReport
 one-report f runoff board report x y u v = u ∙ sym v
+
+pub one-year : OneYear
+one-year f book year board reports x y u v = u ∙ sym v
 
 pub one-run : OneRun
 one-run f board cs = only-run f board cs

@@ -2,17 +2,21 @@
 ghost use mathlib.Core.Path.{_≡_};
 ghost use Rattle.rules.specs.Answers.{numberOf, told};
 ghost use Rattle.filecheck.specs.Check.{checkOf};
-ghost use Rattle.answers.specs.Answers.{answerOf};
+ghost use Rattle.answers.specs.Answers.{answerOf, settled};
 ghost use Rattle.fresh.specs.Fresh.{freshOf, freshTold};
 ghost use Rattle.stock.specs.Stock.{stockOf, stockTold};
 ghost use Rattle.month.specs.Month.{MonthMeets, outcomeOf};
+ghost use Rattle.book.specs.Book.{lookupRefusal};
+ghost use Rattle.years.specs.Years.{YearMeets};
 use answers::Answer;
 use answers::tell;
+use book::find::find_year;
 use filecheck::check::check;
 use fresh::fresh;
 use month::month;
 use stock::Sums;
 use stock::stock;
+use years::run::run_year;
 
 // The refusal's number, or 0 where the file is accepted.
 #[no_mangle]
@@ -54,4 +58,25 @@ pub extern "C" fn river_stock(file: &[u8], board: &[u64]) -> Sums
     ensures { λ r. ⌜ stockTold r ≡ stockOf (now (file .entry)) (now (board .entry)) ⌝ }
 {
     stock(file, board)
+}
+
+// Whether a book lists a year, for this basin.
+#[no_mangle]
+pub extern "C" fn river_find_year(file: &[u8], book: &[u8], year: u32) -> Answer
+    ensures { λ r. ⌜ answerOf r ≡ settled (lookupRefusal (now (file .entry)) (now (book .entry)) year) ⌝ }
+{
+    find_year(file, book, year)
+}
+
+#[no_mangle]
+pub extern "C" fn river_run_year(
+    file: &[u8],
+    book: &[u8],
+    year: u32,
+    board: &mut [u64],
+    reports: &mut [u64],
+) -> Answer
+    ensures { λ r. ⌜ YearMeets (now (file .entry)) (now (book .entry)) year (now (board .entry)) (now (reports .entry)) (outcomeOf r (now (board .exit)) (now (reports .exit))) ⌝ }
+{
+    run_year(file, book, year, board, reports)
 }

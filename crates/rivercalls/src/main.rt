@@ -1,46 +1,26 @@
-// Calls fresh, month and stock on the October basin, with numbers that are turned down and then with good ones, and prints each answer. The
-// good month comes last, so it shows that the calls before it changed nothing.
+// Calls fresh, month and stock on the October basin, with numbers that are turned down and then with good ones, and prints each answer; then
+// the same of years of a book. The good month and the good year come last, so they show that the calls before them changed nothing.
 ghost use Rattle.io.specs.Counts.{Counts};
-use answers::Answer;
+use crate::saying::say;
+use crate::saying::say_stock;
 use fresh::fresh;
-use libc::STDOUT_FILENO;
 use month::month;
 use places::board::BOARD_LENGTH;
 use places::board::MONTH;
-use stock::stock;
 
-fn read_october(buf: &mut [u8]) -> usize
+mod booked;
+mod saying;
+
+fn read_file(name: &[u8], buf: &mut [u8]) -> usize
     ensures { λ r. ⌜ Counts r (now (buf .exit)) ⌝ }
 {
-    let fd = os::open_read(b"october.basin.bin");
+    let fd = os::open_read(name);
     if fd < 0 {
         return 0;
     }
     let n = io::read_full(fd, buf);
     libc::close(fd);
     n
-}
-
-fn say_number(n: u64) {
-    io::write_all(STDOUT_FILENO, b" ");
-    io::print_decimal(STDOUT_FILENO, n);
-}
-
-fn say(what: &[u8], answer: Answer) {
-    io::write_all(STDOUT_FILENO, what);
-    say_number(answer.number);
-    say_number(answer.place);
-    io::write_all(STDOUT_FILENO, b"\n");
-}
-
-fn say_stock(file: &[u8], board: &[u64]) {
-    let sums = stock(file, board);
-    io::write_all(STDOUT_FILENO, b"stock");
-    say_number(sums.number);
-    say_number(sums.place);
-    say_number(sums.storage);
-    say_number(sums.due);
-    io::write_all(STDOUT_FILENO, b"\n");
 }
 
 // Refusal 6: a list that is too short or too long.
@@ -83,7 +63,7 @@ fn wrong_numbers(file: &[u8], board: &mut [u64], report: &mut [u64]) {
     );
 }
 
-fn call(file: &[u8]) {
+fn call(file: &[u8], book: &[u8]) {
     let mut board = [7u64; BOARD_LENGTH];
     let mut report = [0u64; 27];
     say(b"fresh, no file:", fresh(&file[..0], &mut board));
@@ -95,10 +75,13 @@ fn call(file: &[u8]) {
         month(file, &[2000, 700, 300], &mut board, &mut report),
     );
     say_stock(file, &board);
+    booked::call(file, book, &mut board);
 }
 
 fn main() {
-    let mut buf = io::large_buffer();
-    let n = read_october(&mut buf);
-    call(&buf[..n]);
+    let mut file = io::large_buffer();
+    let n = read_file(b"october.basin.bin", &mut file);
+    let mut book = io::buffer();
+    let k = read_file(b"october.book.bin", &mut book);
+    call(&file[..n], &book[..k]);
 }

@@ -3,7 +3,7 @@
 use crate::engine::records::*;
 use crate::examples::{direct, pattern, reservoir, stations};
 
-fn put(file: &mut [u8], at: usize, number: u32) {
+pub(super) fn put(file: &mut [u8], at: usize, number: u32) {
     file[at..at + 4].copy_from_slice(&number.to_le_bytes());
 }
 

@@ -1,12 +1,14 @@
 //! The engine: the calls of the rules on bytes and lists of numbers.
 //!
 //! "01" in these files is the rules document of the product, the rules of
-//! allocation; where it is cited, the heading follows. "002" is the manual of WIRSOS,
-//! the program whose method the rules take up and, in places, leave. Two words differ
-//! from 01's, as the field has its own: the *available flow* at a row is what 01 calls
-//! open water, and the *demand* of a right is what 01 calls its ask.
+//! allocation; where it is cited, the heading follows. "02" is the list of changes asked
+//! for since, cited by number. "002" is the manual of WIRSOS, the program whose method
+//! the rules take up and, in places, leave. Two words differ from 01's, as the field has
+//! its own: the *available flow* at a row is what 01 calls open water, and the *demand*
+//! of a right is what 01 calls its ask.
 
 pub mod board;
+pub mod book;
 pub mod check;
 pub mod month;
 pub mod network;
@@ -16,6 +18,7 @@ pub mod sections;
 pub mod slip;
 pub mod split;
 pub mod tally;
+pub mod year;
 
 use check::judge;
 use network::Network;
@@ -46,4 +49,26 @@ pub fn month(file: &[u8], runoff: &[u32], board: &mut [u64], report: &mut [u64])
 /// Number, place, sum of storages, sum of dues.
 pub fn stock(file: &[u8], board: &[u64]) -> [u64; 4] {
     board::stock(&Faithful, file, board)
+}
+
+/// The body of a year, as a part of the book; empty where the look-up is refused.
+pub fn year_body<'a>(file: &[u8], book: &'a [u8], year: u32) -> &'a [u8] {
+    book::year_body(&Faithful, file, book, year).unwrap_or(&[])
+}
+
+/// Number and place of a look-up; 0, 0 for a year that is found.
+pub fn find_year(file: &[u8], book: &[u8], year: u32) -> Answer {
+    book::find_year(&Faithful, file, book, year)
+}
+
+/// Runs what is left of a year on a board. Answers 0 and the number of month calls made,
+/// or a refusal.
+pub fn run_year(
+    file: &[u8],
+    book: &[u8],
+    year: u32,
+    board: &mut [u64],
+    reports: &mut [u64],
+) -> Answer {
+    year::run_year(&Faithful, file, book, year, board, reports)
 }

@@ -18,6 +18,7 @@ mod reasons;
 mod refusals;
 mod returns;
 mod turn;
+pub use refusals::judge_runoff;
 
 /// The month call. Answers number and place, or 0 and the number of rights
 /// short. A refused call changes neither board nor report.
@@ -45,9 +46,20 @@ pub fn month_on<T: Telling>(
     board: &mut [u64],
     report: &mut [u64],
 ) -> Answer {
-    if let Err(refusal) = refusals::judge_call(telling, basin, runoff, board, report) {
-        return refusal.answer();
+    match refusals::judge_call(telling, basin, runoff, board, report) {
+        Ok(()) => (0, run_month(telling, basin, runoff, board, report)),
+        Err(refusal) => refusal.answer(),
     }
+}
+
+/// Steps 1 to 5, on lists that have been judged; answers the number of rights short.
+pub fn run_month<T: Telling>(
+    telling: &T,
+    basin: &Judged,
+    runoff: &[u32],
+    board: &mut [u64],
+    report: &mut [u64],
+) -> u64 {
     let mut month = Month::begin(telling, basin, board);
     month.clear_in_october();
     month.start_flow(runoff);
@@ -70,7 +82,7 @@ pub fn month_on<T: Telling>(
     if telling.slips(Slip::ReportTailCleared) {
         report[basin.sections.report_length()..].fill(0);
     }
-    (0, shorts)
+    shorts
 }
 
 /// The rows of a set, first row of the path first.

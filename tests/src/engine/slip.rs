@@ -146,6 +146,31 @@ slips! {
     DepthOfNextMonth: "the depth of the next month is used",
     MonthTwelve: "m goes on from 11 to 12",
     FlowsThenAvailable: "the report holds all flows, then all available flows",
+    // The book.
+    YearCountTight: "a book of 20 years is refused",
+    YearCountLowByteOnly: "only the low byte of the number of years is read",
+    BookOfNoYearRefused: "a book of no year is refused",
+    LastYearTight: "year 2200 is refused",
+    EqualYearsAccepted: "equal years are accepted",
+    BookOffsetNotTested: "offsets of a book are not compared",
+    BookEndNotTested: "bytes after the last body are accepted",
+    YearBeforeBook: "an unlisted year is told before a book that breaks its layout",
+    BodyOfNextYear: "a year is found one place off",
+    BodyOneByteLate: "a body begins one byte late",
+    // The run of a year.
+    ListBeforeYear: "a list too short is told before an unlisted year",
+    ListForCallsLeft: "the list has to hold only the reports of the calls left",
+    BoardBeforeList: "an impossible board is told before a list too short",
+    MonthAboveElevenRunsNothing: "a board whose m is above 11 is accepted, no call is made",
+    RunFromOctober: "a run begins with October's sheet, whatever the board's month",
+    SheetsBeforeLookedAt: "sheets before the board's month are looked at too",
+    RefusalNamesCall: "8 names the call, not the row",
+    RefusedRunBegun: "a refused run leaves the months before the refusal on board and list",
+    RunStopsAtRefusal: "a run ends before a sheet over its limit and is accepted",
+    ReportsOnEachOther: "every report stands at the beginning of the list",
+    ReportsByMonth: "a report stands at the place of its month, not of its call",
+    ReportsTailCleared: "places beyond the reports are set to 0",
+    TwelveAnswered: "the answer tells twelve calls always",
 }
 
 /// How the rules are told: rightly, or with one slip.

@@ -20,6 +20,7 @@ mod river;
 mod shares;
 #[cfg(test)]
 mod tests;
+mod years;
 pub use lakes::area;
 pub use paths::{path, row_below};
 use refusals::{decode, refused};

@@ -17,21 +17,11 @@ use river_tests::engine::fresh;
 use river_tests::engine::records::*;
 use river_tests::engine::report;
 use river_tests::generate::{any_river, river, river_of, River, Rng, Size, Volume, Water};
+use river_tests::seeds::{first_seed, from_environment};
 use spoils::SPOILS;
-use std::env;
 use std::fmt::Display;
 
-const FIRST_SEED: u64 = 0;
 const CALLS: usize = 400_000;
-
-fn from_environment(name: &str) -> Option<u64> {
-    let text = env::var(name).ok()?;
-    Some(text.parse().unwrap_or_else(|_| panic!("{name} is not a number: {text}")))
-}
-
-fn first_seed() -> u64 {
-    from_environment("RIVER_SEED").unwrap_or(FIRST_SEED)
-}
 
 // ---- lists of months ----
 

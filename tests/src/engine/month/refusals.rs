@@ -35,7 +35,7 @@ pub fn judge_call<T: Telling>(
 }
 
 /// Runoff over its limit is refused at the first row that has it.
-fn judge_runoff<T: Telling>(telling: &T, runoff: &[u32]) -> Result<(), Refusal> {
+pub fn judge_runoff<T: Telling>(telling: &T, runoff: &[u32]) -> Result<(), Refusal> {
     let most = MOST_RUNOFF - telling.slips(Slip::RunoffLimitTight) as u32;
     let over = |&number: &u32| number > most;
     let row = if telling.slips(Slip::RunoffLastAtFault) {

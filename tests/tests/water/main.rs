@@ -1,21 +1,17 @@
 //! Long lists of months against the tally. The tally asserts the water sum, the
 //! reservoirs' accounts and the bounds of available flow in every call; here the
-//! engine's answer, board and report are compared with what the tally keeps.
+//! engine's answer, board and report are compared with what the tally keeps. Lists with
+//! years of a book among the months are in `years`.
 
-use river_tests::engine::board::*;
+mod compare;
+mod years;
+
+use compare::{compare_board, compare_report, Compared};
+use river_tests::engine::board::BOARD;
 use river_tests::engine::records::MOST_RUNOFF;
 use river_tests::engine::tally::Tally;
-use river_tests::engine::{fresh, month, report};
+use river_tests::engine::{fresh, month};
 use river_tests::generate::{any_river, river_of, River, Rng, Size};
-
-#[derive(Default)]
-struct Compared {
-    calls: usize,
-    refused: usize,
-    marked: usize,
-    /// Grants by reason.
-    reasons: [usize; 4],
-}
 
 /// Runs a list of calls, some of them refused, through engine and tally.
 fn compare_list(rng: &mut Rng, river: &River, calls: usize, compared: &mut Compared) {
@@ -50,49 +46,10 @@ fn compare_list(rng: &mut Rng, river: &River, calls: usize, compared: &mut Compa
             continue;
         }
         compare_board(&tally, &board);
-        compare_report(river, &tally, &report, compared);
+        compare_report(tally.months.last().unwrap(), &report, compared);
         assert!(report[length..].iter().all(|&number| number == 77));
         compared.marked += tally.marks.iter().filter(|&&mark| mark).count();
     }
-}
-
-fn compare_board(tally: &Tally, board: &[u64]) {
-    let mut expected = vec![0; BOARD];
-    expected[NEXT_MONTH] = tally.m as u64;
-    for (place, &storage) in tally.storages.iter().enumerate() {
-        expected[STORAGES + place] = storage as u64;
-        expected[MARKS] |= (tally.marks[place] as u64) << place;
-    }
-    for (place, &taken) in tally.taken.iter().enumerate() {
-        expected[TAKEN + place] = taken as u64;
-    }
-    for (row, lags) in tally.pending_returns().iter().enumerate() {
-        for k in 1..=11 {
-            expected[due(row, k)] = lags[k - 1] as u64;
-        }
-    }
-    assert_eq!(board, expected);
-}
-
-fn compare_report(river: &River, tally: &Tally, report: &[u64], compared: &mut Compared) {
-    let past = tally.months.last().unwrap();
-    for (place, grant) in past.grants.iter().enumerate() {
-        let reason = grant.reason.number();
-        assert_eq!(report[report::from_river(place)], grant.from_river as u64);
-        assert_eq!(report[report::from_storage(place)], grant.from_storage as u64);
-        assert_eq!(report[report::reason(place)], reason);
-        assert_eq!(report[report::station(place)], grant.station as u64);
-        compared.reasons[reason as usize] += 1;
-    }
-    let (rights, rows) = (past.grants.len(), past.flow.len());
-    for row in 0..rows {
-        assert_eq!(report[report::flow(rights, row)], past.flow[row] as u64);
-        assert_eq!(report[report::available(rights, row)], past.available[row] as u64);
-    }
-    for (lake, evaporation) in past.evaporation.iter().enumerate() {
-        assert_eq!(report[report::evaporation(rights, rows, lake)], *evaporation as u64);
-    }
-    assert_eq!(past.evaporation.len(), river.basin.reservoirs.len());
 }
 
 fn compare_many(seeds: std::ops::Range<u64>, size: Option<Size>, calls: usize) -> Compared {

@@ -2,6 +2,8 @@
 //! generated inputs. Prints the table that has to stand in README.md:
 //! `cargo test --release --test slips -- --nocapture`.
 
+mod years;
+
 use river_tests::damage::*;
 use river_tests::engine::board::{self, BOARD};
 use river_tests::engine::check::judge;
@@ -12,6 +14,7 @@ use river_tests::engine::sections::find_sections;
 use river_tests::engine::slip::{Faithful, Slipped, Telling, ALL};
 use river_tests::engine::{self, check, fresh, report, stock};
 use river_tests::generate::{any_river, largest, River, Rng};
+use years::{asks, find_in_years};
 
 /// A difference between the right engine and a wrong one: where it was seen.
 type Seen = Option<&'static str>;
@@ -190,27 +193,36 @@ fn find_in_calls(wrong: &impl Telling) -> (Seen, usize) {
 
 #[test]
 fn every_slip_is_seen() {
-    let files = files();
+    let (files, asks) = (files(), asks());
     let mut unseen = Vec::new();
-    let mut table =
-        String::from("| slip | what is wrong | files until seen | calls until seen |\n");
-    table += "|---|---|---|---|\n";
+    let mut table = String::from(
+        "| slip | what is wrong | files until seen | calls until seen | years until seen |\n",
+    );
+    table += "|---|---|---|---|---|\n";
     for &(slip, name, wrong) in ALL {
         let wrong_engine = Slipped(slip);
         let in_files = find_in_files(&wrong_engine, &files);
         // A slip of the file's check alone shows in no call on a valid basin.
         let (seen, calls) = find_in_calls(&wrong_engine);
+        let in_years = find_in_years(&wrong_engine, &asks);
+        let told = |number: usize, seen: &str| format!("{number}, {seen}");
         let files_told = in_files.map_or("-".into(), |place| place.to_string());
-        let calls_told = seen.map_or("-".into(), |seen| format!("{calls}, {seen}"));
-        table += &format!("| {name} | {wrong} | {files_told} | {calls_told} |\n");
-        if in_files.is_none() && seen.is_none() {
+        let calls_told = seen.map_or("-".into(), |seen| told(calls, seen));
+        let years_told = in_years.map_or("-".into(), |(number, seen)| told(number, seen));
+        table += &format!("| {name} | {wrong} | {files_told} | {calls_told} | {years_told} |\n");
+        if in_files.is_none() && seen.is_none() && in_years.is_none() {
             unseen.push(name);
         }
     }
-    let counts = format!("{} slips, {} files for the check", ALL.len(), files.len());
+    let counts = format!(
+        "{} slips, {} files for the check, {} years asked for",
+        ALL.len(),
+        files.len(),
+        asks.len()
+    );
     println!("{table}\n{counts}");
     assert!(unseen.is_empty(), "not seen: {unseen:?}");
-    let readme = include_str!("../README.md");
+    let readme = include_str!("../../README.md");
     assert!(readme.contains(&table), "README.md has another table");
     assert!(readme.contains(&counts), "README.md has other counts than {counts}");
 }
@@ -220,6 +232,7 @@ fn every_slip_is_seen() {
 #[test]
 fn the_right_engine_differs_nowhere() {
     assert_eq!(find_in_files(&Faithful, &files()), None);
+    assert_eq!(find_in_years(&Faithful, &asks()), None);
     let (seen, calls) = find_in_calls(&Faithful);
     assert_eq!(seen, None);
     println!("{calls} calls without a difference where there is none");

@@ -1,0 +1,27 @@
+// The lines that are printed.
+use answers::Answer;
+use libc::STDOUT_FILENO;
+use stock::stock;
+
+fn say_number(n: u64) {
+    io::write_all(STDOUT_FILENO, b" ");
+    io::print_decimal(STDOUT_FILENO, n);
+}
+
+// What was called, and its answer.
+pub fn say(what: &[u8], answer: Answer) {
+    io::write_all(STDOUT_FILENO, what);
+    say_number(answer.number);
+    say_number(answer.place);
+    io::write_all(STDOUT_FILENO, b"\n");
+}
+
+pub fn say_stock(file: &[u8], board: &[u64]) {
+    let sums = stock(file, board);
+    io::write_all(STDOUT_FILENO, b"stock");
+    say_number(sums.number);
+    say_number(sums.place);
+    say_number(sums.storage);
+    say_number(sums.due);
+    io::write_all(STDOUT_FILENO, b"\n");
+}
