@@ -21,7 +21,7 @@ judge 0 '' "$crates/riveryear/stdout"
 
 begin no_word
 run
-wants 0 '' "$header" 'refused 1 0'
+wants 0 ": $missing" "$header" 'refused 1 0'
 
 begin basin_alone
 bare_basin

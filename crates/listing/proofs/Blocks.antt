@@ -21,7 +21,7 @@ module _ (b : Basin) where
 
   -- ---- bytes that follow a block change nothing of the steps made on it
 
-  abbrev followed : Place → List ℕ → Place
+  abbrev pub followed : Place → List ℕ → Place
   followed p later = record { standing = p .standing; left = p .left ++ later; more = p .more }
 
   module _ (later : List ℕ) where
@@ -35,7 +35,7 @@ module _ (b : Basin) where
           meets = subst (λ (l : List ℕ). StepMeets b (from .standing) l o) (sym (take-append-le (sheetBytes b) (from .left) later h)) (m .meets);
         }
 
-    walk-whole : (last : Bool) (from to : Place) (os : List Step) → Walk b false from os to → Walk b last (followed from later) os (followed to later)
+    pub walk-whole : (last : Bool) (from to : Place) (os : List Step) → Walk b false from os to → Walk b last (followed from later) os (followed to later)
     walk-whole last from to [] w = ap (λ (p : Place). followed p later) w
     walk-whole last from to (o ∷ os) w =
         let h : sheetBytes b ≤ length (from .left) = w .0 .whole refl in (

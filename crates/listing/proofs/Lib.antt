@@ -1,4 +1,5 @@
 pub mod Steps
 pub mod Blocks
 pub mod Years
+pub mod Bodies
 pub mod October

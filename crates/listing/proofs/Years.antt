@@ -36,21 +36,21 @@ use Rattle.listing.proofs.Blocks.{calls-on}
 
 -- ---- the sheets of a body, one after another
 
-listed-more : (b : Basin) (s : Standing) (rs : List (List ℕ)) → (sheetsListed b s rs) .more ≡ true
+pub listed-more : (b : Basin) (s : Standing) (rs : List (List ℕ)) → (sheetsListed b s rs) .more ≡ true
 unfolding sheetsListed
 listed-more b s [] = refl
 listed-more b s (r ∷ rs) = refl
 
+abbrev pub sheetsOf : Basin → List ℕ → List (List ℕ)
+sheetsOf b body = sheetsIn (rows b) body
+
+-- what is left of the body from sheet k on
+abbrev pub fromSheet : Basin → List ℕ → ℕ → List ℕ
+fromSheet b body k = drop (sheetBytes b * k) body
+
 module _ (b : Basin) (body : List ℕ) (row : 0 < rows b) (whole : length body ≡ 12 * sheetBytes b) where
-  abbrev sheets : List (List ℕ)
-  sheets = sheetsIn (rows b) body
-
-  -- what is left of the body from sheet k on
-  abbrev from : ℕ → List ℕ
-  from k = drop (sheetBytes b * k) body
-
   -- where a sheet is left, there is one more of the twelve
-  in-body : (k : ℕ) → sheetBytes b ≤ length (from k) → k < 12
+  in-body : (k : ℕ) → sheetBytes b ≤ length (fromSheet b body k) → k < 12
   in-body k h = go (ltb k 12) refl
     where
       go : (t : Bool) → ltb k 12 ≡ t → k < 12
@@ -60,29 +60,29 @@ module _ (b : Basin) (body : List ℕ) (row : 0 < rows b) (whole : length body �
           absurd (omega (arith, past, row, h, whole, length-drop (sheetBytes b * k) body))
 
   -- and where less is left, there is none
-  at-end : (k : ℕ) → length (from k) < sheetBytes b → 12 ≤ k
+  at-end : (k : ℕ) → length (fromSheet b body k) < sheetBytes b → 12 ≤ k
   at-end k h = go (ltb k 12) refl
     where
       go : (t : Bool) → ltb k 12 ≡ t → 12 ≤ k
       go true e = absurd (omega (arith, step-within (sheetBytes b) 12 k (lt-of {m = k} {n = 12} e), h, whole, length-drop (sheetBytes b * k) body))
       go false e = not-lt-of {m = k} {n = 12} e
 
-  sheet-long : (k : ℕ) → k < 12 → length (take (sheetBytes b) (from k)) ≡ sheetBytes b
-  sheet-long k h = length-take-le (sheetBytes b) (from k) (omega (arith, length-drop (sheetBytes b * k) body, step-within (sheetBytes b) 12 k h, whole))
+  pub sheet-long : (k : ℕ) → k < 12 → length (take (sheetBytes b) (fromSheet b body k)) ≡ sheetBytes b
+  sheet-long k h = length-take-le (sheetBytes b) (fromSheet b body k) (omega (arith, length-drop (sheetBytes b * k) body, step-within (sheetBytes b) 12 k h, whole))
 
-  next : (k : ℕ) → drop (sheetBytes b) (from k) ≡ from (k + 1)
-  next k = drop-drop (sheetBytes b) (sheetBytes b * k) body ∙ ap (λ (x : ℕ). drop x body) (sym (mul-suc (sheetBytes b) k)) ∙ ap (λ (x : ℕ). from x) (sym (add-one k))
+  pub next : (k : ℕ) → drop (sheetBytes b) (fromSheet b body k) ≡ fromSheet b body (k + 1)
+  next k = drop-drop (sheetBytes b) (sheetBytes b * k) body ∙ ap (λ (x : ℕ). drop x body) (sym (mul-suc (sheetBytes b) k)) ∙ ap (fromSheet b body) (sym (add-one k))
 
   -- the step that sheet k makes, where it is within its limit
-  month-made : (k : ℕ) (s : Standing) → k < 12 → overLimit (sheetAt (rows b) body k) ≡ none → stepOf b s (take (sheetBytes b) (from k)) ≡ sheetStep none b s (sheetAt (rows b) body k)
+  pub month-made : (k : ℕ) (s : Standing) → k < 12 → overLimit (sheetAt (rows b) body k) ≡ none → stepOf b s (take (sheetBytes b) (fromSheet b body k)) ≡ sheetStep none b s (sheetAt (rows b) body k)
   unfolding overAnswer
   month-made k s h e =
-      step-some b s (take (sheetBytes b) (from k)) (omega (arith, sheet-long k h, row))
-      ∙ ap (λ (v : Option Answer). sheetStep v b s (sheetAt (rows b) body k)) (whole-refusal b (take (sheetBytes b) (from k)) (sheet-long k h) ∙ ap overAnswer e)
+      step-some b s (take (sheetBytes b) (fromSheet b body k)) (omega (arith, sheet-long k h, row))
+      ∙ ap (λ (v : Option Answer). sheetStep v b s (sheetAt (rows b) body k)) (whole-refusal b (take (sheetBytes b) (fromSheet b body k)) (sheet-long k h) ∙ ap overAnswer e)
 
   -- steps from sheet k on, each lent a whole sheet, until none is left
-  walked : (os : List Step) (k : ℕ) (s : Standing) (to : Place) → firstOver (drop k sheets) ≡ none → Walk b false (record { standing = s; left = from k; more = true }) os to
-      → length (to .left) < sheetBytes b → record { text = textsOf os; standing = to .standing; more = to .more } ≡ sheetsListed b s (drop k sheets)
+  walked : (os : List Step) (k : ℕ) (s : Standing) (to : Place) → firstOver (drop k (sheetsOf b body)) ≡ none → Walk b false (record { standing = s; left = fromSheet b body k; more = true }) os to
+      → length (to .left) < sheetBytes b → record { text = textsOf os; standing = to .standing; more = to .more } ≡ sheetsListed b s (drop k (sheetsOf b body))
   unfolding textsOf sheetsListed sheetStep
   walked [] k s to e w l =
       let over : 12 ≤ k = at-end k (subst (λ (p : Place). length (p .left) < sheetBytes b) (sym w) l) in
@@ -95,13 +95,13 @@ module _ (b : Basin) (body : List ℕ) (row : 0 < rows b) (whole : length body �
       let eo : o ≡ m = w .0 .meets ∙ month-made k s h (none-over .0) in
       let ih = walked os (k + 1) (m .standing) to (none-over .1) (subst (λ (p : Place). Walk b false p os to) (λ z. record { standing = (eo z) .standing; left = next k z; more = (eo z) .more }) (w .1)) l in
       (λ z. record { text = (eo z) .text ++ (ih z) .text; standing = (ih z) .standing; more = (ih z) .more })
-      ∙ (λ z. record { text = m .text ++ (sheetsListed b (m .standing) (drop (k + 1) sheets)) .text; standing = (sheetsListed b (m .standing) (drop (k + 1) sheets)) .standing; more = listed-more b (m .standing) (drop (k + 1) sheets) z })
+      ∙ (λ z. record { text = m .text ++ (sheetsListed b (m .standing) (drop (k + 1) (sheetsOf b body))) .text; standing = (sheetsListed b (m .standing) (drop (k + 1) (sheetsOf b body))) .standing; more = listed-more b (m .standing) (drop (k + 1) (sheetsOf b body)) z })
       ∙ sym (ap (sheetsListed b s) (sheets-from (rows b) body k h))
 
 -- ---- a year
 
 module _ (f book : List ℕ) (s : Standing) (y : ℕ) where
-  year-found : yearRefusal f book s y ≡ none → Found f book y
+  pub year-found : yearRefusal f book s y ≡ none → Found f book y
   unfolding runRefusal
   year-found e = found-none f book y (or-first (lookupRefusal f book y) _ e)
 

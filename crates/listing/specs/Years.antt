@@ -1,5 +1,5 @@
 -- The listing of picked years of a runoff book (02, No. 4): a basin file, a book and years. Each year is run from where the listing stands, as a year run is.
--- With it the steps of a program that lists so, and that their texts are this listing. proofs/Years proves it.
+-- With it the steps of a program that lists so, and that their texts are this listing; and years as a file of months. proofs/Years and proofs/Bodies prove it.
 use mathlib.Core.Bool.{Bool, true, false}
 use mathlib.Core.List.{List, [], _∷_, _++_}
 use mathlib.Core.Option.{Option, none, some}
@@ -18,7 +18,7 @@ use Rattle.answers.specs.Answers.{fileRefusal}
 use Rattle.book.specs.Book.{yearPart}
 use Rattle.years.specs.Years.{sheetsLeft, runRefusal}
 use Rattle.listing.specs.Listing.{refusalLine, header}
-use Rattle.listing.specs.Run.{sheetBytes, Standing, Step, sheetStep, begin}
+use Rattle.listing.specs.Run.{sheetBytes, Standing, Step, sheetStep, begin, listingOf}
 use Rattle.listing.specs.Steps.{Place, textsOf, Call, Calls, stepsOf}
 
 -- ---- what one year adds
@@ -106,3 +106,19 @@ YearsList = (f book ys : List ℕ) → checkOf f ≡ Accepted → (os : List Ste
 -- Of a file that is turned down: the header and the refusal are.
 abbrev pub RefusalListsYears : Type 0
 RefusalListsYears = (f book ys : List ℕ) (a : Answer) → fileRefusal f ≡ some a → header ++ refusalLine a ≡ yearsListing f book ys
+
+-- ---- years as a file of months
+
+-- each year is accepted where the one before left the run
+abbrev pub YearsAccepted : List ℕ → List ℕ → Standing → List ℕ → Type 0
+YearsAccepted f book s [] = Unit {0}
+YearsAccepted f book s (y ∷ ys) = (yearRefusal f book s y ≡ none) × YearsAccepted f book ((nextYear f book s y) .standing) ys
+
+-- the bodies of the years, one after another
+unfoldable pub bodiesOf : List ℕ → List ℕ → List ℕ → List ℕ
+bodiesOf f book [] = []
+bodiesOf f book (y ∷ ys) = yearPart f book y ++ bodiesOf f book ys
+
+-- Where each year is accepted, the listing of the years is that of a file of months that holds their bodies.
+abbrev pub YearsAsMonths : Type 0
+YearsAsMonths = (f book ys : List ℕ) → checkOf f ≡ Accepted → YearsAccepted f book (begin (basinOf f)) ys → yearsListing f book ys ≡ listingOf f (bodiesOf f book ys)

@@ -18,7 +18,7 @@ same-length c = search needs
 returns : tie.Need-returns
 returns c =
     let s = c .before .before .before .before .before .before .before .before .before .before .before .args in
-    year-refused (now (s .file)) (now (s .book)) (s .year) (s .from) (now (s .board)) (now (s .out)) _ (c .before .before .before .before .before .before .judge-year .ensures) (c .before .before .before .before .if1 .taken) _ _ (c .before .before .refuse .ensures)
+    year-refused (now (s .file)) (now (s .book)) (s .year) (s .from) (now (s .board)) (now (s .out)) _ (c .before .before .before .before .before .before .judge-year .ensures) (λ z. omega (arith, z, c .before .before .before .before .if1 .taken)) _ _ (c .before .before .refuse .ensures)
 
 returns-2 : tie.Need-returns-2
 returns-2 c =
