@@ -1,11 +1,13 @@
 -- Month after month of a year, each report on its own part of the list. Assumes nothing.
 use mathlib.Core.Path.{_≡_, refl, sym, ap, _∙_, subst}
-use mathlib.Core.List.{List, _∷_, _++_, append-nil}
+use mathlib.Core.Bool.{true}
+use mathlib.Core.Option.{none}
+use mathlib.Core.List.{List, [], _∷_, _++_, append-assoc}
 use Prim.Native.Nat.{ℕ, suc, _+_, _-_, _*_, _≤_, _<_}
-use native.Mathlib.Nat.{suc-mul}
+use native.Mathlib.Nat.{mul-le-mul, zero-mul, suc-mul}
 use native.Mathlib.Omega.{arith}
-use lib.ListN.{length, take, drop, length-append, length-drop}
-use lib.Seq.{length-take-le, take-at, drop-at, take-length, drop-length}
+use lib.ListN.{length, take, drop, length-append, length-drop, take-append-drop}
+use lib.Seq.{length-take-le, take-at, drop-at}
 use Rattle.places.specs.Board.{boardLength}
 use Rattle.rules.specs.Basin.{Basin}
 use Rattle.rules.specs.Tally.{reportLength, overLimit}
@@ -46,102 +48,144 @@ pub after-size : (b : Basin) (r bd : List ℕ) → length (boardAfter b r bd) �
 unfolding boardAfter
 after-size b r bd = board-length b ((runOf b r bd) .carried) (dueAfter b (runOf b r bd) bd)
 
--- ---- room for a report, and for those after it
+-- ---- month after month
 
-pub room-here : (k told m : ℕ) → k < 12 → (12 - k) * told ≤ m → told ≤ m
-room-here k told m h r =
-    let e : 12 - k ≡ suc (11 - k) = omega arith in
-    let q : (12 - k) * told ≡ suc (11 - k) * told = ap (λ (x : ℕ). x * told) e in
-    omega (arith, suc-mul (11 - k) told, q, r)
+-- the parts of the months from first on lie one after another in the list
+pub part-within : (first k told long : ℕ) → first ≤ k → k < 12 → (12 - first) * told ≤ long → (k - first) * told + told ≤ long
+part-within first k told long l h room =
+    let m : suc (k - first) * told ≤ (12 - first) * told = mul-le-mul {n₁ = suc (k - first)} {m₁ = told} {n₂ = 12 - first} {m₂ = told} (omega arith) (omega arith) in
+    omega (arith, suc-mul (k - first) told, m, room)
 
-room-next : (k told m : ℕ) → k < 12 → (12 - k) * told ≤ m → (12 - (k + 1)) * told ≤ m - told
-room-next k told m h r =
-    let e : 12 - k ≡ suc (11 - k) = omega arith in
-    let d : 12 - (k + 1) ≡ 11 - k = omega arith in
-    let q : (12 - k) * told ≡ suc (11 - k) * told = ap (λ (x : ℕ). x * told) e in
-    let s : (12 - (k + 1)) * told ≡ (11 - k) * told = ap (λ (x : ℕ). x * told) d in
-    omega (arith, suc-mul (11 - k) told, q, s, r)
+-- a part of the list is lent and given back: what is before it, what came back, and what is beyond it
+module _ (at told w : ℕ) (old part : List ℕ) (ew : w ≡ told) (fit : at + told ≤ length old) (whole : length part ≡ length (take w (drop at old))) where
+  abbrev pub back : List ℕ
+  back = take at old ++ (part ++ drop w (drop at old))
 
--- the part after the first `told`, lent and given back
-module _ (told : ℕ) (old part : List ℕ) (fit : told ≤ length old) (whole : length part ≡ length (take told old)) where
-  abbrev pub mixed : List ℕ
-  mixed = part ++ drop told old
+  before-long : length (take at old) ≡ at
+  before-long = length-take-le at old (omega (arith, fit))
 
-  part-told : length part ≡ told
-  part-told = whole ∙ length-take-le told old fit
+  part-long : length part ≡ told
+  part-long = whole ∙ length-take-le w (drop at old) (omega (arith, ew, fit, length-drop at old)) ∙ ew
 
-  pub mixed-length : length mixed ≡ length old
-  mixed-length = omega (arith, length-append part (drop told old), part-told, length-drop told old, fit)
+  pub back-long : length back ≡ length old
+  back-long = omega (arith, length-append (take at old) (part ++ drop w (drop at old)), length-append part (drop w (drop at old)), before-long, part-long, length-drop w (drop at old), length-drop at old, ew, fit)
 
-  after-part : drop told mixed ≡ drop told old
-  after-part = drop-at part (drop told old) told part-told
+  both-long : length (take at old ++ part) ≡ at + told
+  both-long = omega (arith, length-append (take at old) part, before-long, part-long)
 
-  left : length mixed - told ≡ length (drop told old)
-  left = omega (arith, mixed-length, length-drop told old)
+  joined : back ≡ (take at old ++ part) ++ drop w (drop at old)
+  joined = sym (append-assoc (take at old) part (drop w (drop at old)))
 
-  pub lent-is : take (length mixed - told) (drop told mixed) ≡ drop told old
-  lent-is = (λ z. take (left z) (after-part z)) ∙ take-length (drop told old)
+  pub back-first : take (at + told) back ≡ take at old ++ part
+  back-first = ap (take (at + told)) joined ∙ take-at (take at old ++ part) (drop w (drop at old)) (at + told) both-long
 
-  pub back-is : (rest : List ℕ) → take told mixed ++ (rest ++ drop (length mixed - told) (drop told mixed)) ≡ part ++ rest
-  back-is rest =
-      (λ z. take-at part (drop told old) told part-told z ++ (rest ++ drop (left z) (after-part z)))
-      ∙ (λ z. part ++ (rest ++ drop-length (drop told old) z))
-      ∙ (λ z. part ++ append-nil rest z)
+  pub back-rest : drop (at + told) back ≡ drop told (drop at old)
+  back-rest = ap (drop (at + told)) joined ∙ drop-at (take at old ++ part) (drop w (drop at old)) (at + told) both-long ∙ ap (λ (x : ℕ). drop x (drop at old)) ew
 
--- ---- a month and those after it
+-- How a run stands before month k: what the months to come leave, from the board and the list as they are, is what all its months leave from those it was lent.
+pub record Going (b : Basin) (n : ℕ) (body : List ℕ) (first told : ℕ) (bd₀ old₀ runoff bd old : List ℕ) (at k : ℕ) : Type 0 where
+  pub from : first ≤ k
+  pub in-year : k ≤ 12
+  pub place : at ≡ (k - first) * told
+  pub numbers : length runoff ≡ n
+  pub long : length old ≡ length old₀
+  pub size : length bd ≡ boardLength
+  pub can : possible b bd ≡ true
+  pub none-over : firstOver (drop k (sheetsIn n body)) ≡ none
+  pub board-left : boardsAfter b (drop k (sheetsIn n body)) bd ≡ boardsAfter b (drop first (sheetsIn n body)) bd₀
+  pub reports-left : take at old ++ reportsOf b (drop k (sheetsIn n body)) bd (drop at old) ≡ reportsOf b (drop first (sheetsIn n body)) bd₀ old₀
 
--- the sheets read through a list of the same length
-pub rest-of : (b : Basin) (body : List ℕ) (k : ℕ) {x n : ℕ} {bd old bd′ old′ : List ℕ} → x ≡ n → RestRan b (drop (k + 1) (sheetsIn x body)) bd old bd′ old′ → RestRan b (drop (k + 1) (sheetsIn n body)) bd old bd′ old′
-rest-of b body k {x} {n} {bd} {old} {bd′} {old′} e h = subst (λ (y : ℕ). RestRan b (drop (k + 1) (sheetsIn y body)) bd old bd′ old′) e h
+module _ (st rs ps ri body : List ℕ) (first told : ℕ) (runoff₀ bd₀ old₀ : List ℕ) (c : CanRest st rs ps ri body first told runoff₀ bd₀ old₀) where
+  abbrev b : Basin
+  b = bodies st rs ps ri
 
-module _ (b : Basin) (n : ℕ) (body : List ℕ) (k : ℕ) where
-  pub rest-none : (bd old : List ℕ) → 12 ≤ k → RestRan b (drop k (sheetsIn n body)) bd old bd old
-  unfolding boardsAfter reportsOf
-  rest-none bd old h = subst (λ (x : List (List ℕ)). RestRan b x bd old bd old) (sym (sheets-end n body k h)) (record { board-left = refl; reports-left = refl })
+  abbrev n : ℕ
+  n = length runoff₀
 
-  module _ (h : k < 12) (told : ℕ) (et : told ≡ reportLength b) (bd old : List ℕ) (fit : told ≤ length old) where
-    abbrev r : List ℕ
-    r = sheetAt n body k
+  abbrev sheets : List (List ℕ)
+  sheets = sheetsIn n body
 
-    abbrev rs : List (List ℕ)
-    rs = drop (k + 1) (sheetsIn n body)
+  abbrev Now : List ℕ → List ℕ → List ℕ → ℕ → ℕ → Type 0
+  Now runoff bd old at k = Going b n body first told bd₀ old₀ runoff bd old at k
 
-    rest-cons : (bd₁ part bd₂ rest : List ℕ) (c : ℕ) → Ran b r bd (take told old) bd₁ part c → RestRan b rs bd₁ (drop told old) bd₂ rest → RestRan b (r ∷ rs) bd old bd₂ (part ++ rest)
-    unfolding boardsAfter reportsOf
-    rest-cons bd₁ part bd₂ rest c m q = record {
-      board-left = q .board-left ∙ ap (boardsAfter b rs) (m .board);
-      reports-left = (λ z. m .report z ++ q .reports-left z) ∙ (λ y. reportOf b (runOf b r bd) (take (et y) old) ++ reportsOf b rs (m .board y) (drop (et y) old));
+  pub begins : Now runoff₀ bd₀ old₀ 0 first
+  begins = record {
+    from = omega arith;
+    in-year = c .month;
+    place = let e : first - first ≡ 0 = omega arith in sym (ap (λ (x : ℕ). x * told) e ∙ zero-mul told);
+    numbers = refl;
+    long = refl;
+    size = c .year .size;
+    can = c .year .can;
+    none-over = c .none-over;
+    board-left = refl;
+    reports-left = refl;
+  }
+
+  module _ (runoff bd old : List ℕ) (at k : ℕ) (g : Now runoff bd old at k) (h : k < 12) where
+    pub fits : at + told ≤ length old
+    fits = omega (arith, g .place, g .long, part-within first k told (length old₀) (g .from) h (c .room))
+
+    pub can-month : (w : ℕ) → w ≡ told → CanMonth st rs ps ri body k runoff bd (take w (drop at old))
+    can-month w ew = record {
+      year = record { accepted = c .year .accepted; numbers = g .numbers ∙ c .year .numbers; bytes = omega (arith, g .numbers, c .year .bytes); size = g .size; can = g .can };
+      month = h;
+      none-over = ap (λ (x : ℕ). overLimit (sheetAt x body k)) (g .numbers) ∙ none-from n body k h (g .none-over) .0;
+      room = omega (arith, length-take-le w (drop at old) (omega (arith, ew, fits, length-drop at old)), ew, c .report);
     }
 
-    pub rest-step : (bd₁ part bd₂ rest : List ℕ) (c : ℕ) → (whole : length part ≡ length (take told old)) → Ran b r bd (take told old) bd₁ part c
-        → RestRan b rs bd₁ (take (length (part ++ drop told old) - told) (drop told (part ++ drop told old))) bd₂ rest
-        → RestRan b (drop k (sheetsIn n body)) bd old bd₂ (take told (part ++ drop told old) ++ (rest ++ drop (length (part ++ drop told old) - told) (drop told (part ++ drop told old))))
-    rest-step bd₁ part bd₂ rest c whole m q =
-        let q′ : RestRan b rs bd₁ (drop told old) bd₂ rest = subst (λ (x : List ℕ). RestRan b rs bd₁ x bd₂ rest) (lent-is told old part fit whole) q in
-        subst (λ (x : List ℕ). RestRan b (drop k (sheetsIn n body)) bd old bd₂ x) (sym (back-is told old part fit whole rest))
-        (subst (λ (x : List (List ℕ)). RestRan b x bd old bd₂ (part ++ rest)) (sym (sheets-from n body k h)) (rest-cons bd₁ part bd₂ rest c m q′))
+    module _ (runoff′ bd′ part : List ℕ) (w s : ℕ) (ew : w ≡ told) (er : length runoff′ ≡ length runoff) (whole : length part ≡ length (take w (drop at old))) (m : Ran b (sheetAt (length runoff) body k) bd (take w (drop at old)) bd′ part s) where
+      abbrev r : List ℕ
+      r = sheetAt n body k
 
-module _ (st rs ps ri body : List ℕ) (k told : ℕ) (runoff bd old : List ℕ) (c : CanRest st rs ps ri body k told runoff bd old) (h : k < 12) where
-  abbrev b′ : Basin
-  b′ = bodies st rs ps ri
+      abbrev later : List (List ℕ)
+      later = drop (k + 1) sheets
 
-  pub told-fits : told ≤ length old
-  told-fits = room-here k told (length old) h (c .room)
+      -- the sheet, read through a list as long as the one that was lent
+      ran : Ran b r bd (take w (drop at old)) bd′ part s
+      ran = subst (λ (x : ℕ). Ran b (sheetAt x body k) bd (take w (drop at old)) bd′ part s) (g .numbers) m
 
-  pub can-month : CanMonth st rs ps ri body k runoff bd (take told old)
-  can-month = record { year = c .year; month = h; none-over = none-from (length runoff) body k h (c .none-over) .0; room = omega (arith, length-take-le told old told-fits, c .report) }
+      ahead : drop k sheets ≡ r ∷ later
+      ahead = sheets-from n body k h
 
-  pub can-next : (runoff′ bd′ part : List ℕ) (s : ℕ) → length runoff′ ≡ length runoff → length part ≡ length (take told old) → Ran b′ (sheetAt (length runoff) body k) bd (take told old) bd′ part s
-      → CanRest st rs ps ri body (k + 1) told runoff′ bd′ (take (length (part ++ drop told old) - told) (drop told (part ++ drop told old)))
-  can-next runoff′ bd′ part s er whole m = record {
-    year = record {
-      accepted = c .year .accepted;
-      numbers = er ∙ c .year .numbers;
-      bytes = omega (arith, er, c .year .bytes);
-      size = ap length (m .board) ∙ after-size b′ (sheetAt (length runoff) body k) bd;
-      can = ap (possible b′) (m .board) ∙ after-possible b′ (c .year .accepted) bd (c .year .can) (sheetAt (length runoff) body k);
-    };
-    none-over = ap (λ (x : ℕ). firstOver (drop (k + 1) (sheetsIn x body))) er ∙ none-from (length runoff) body k h (c .none-over) .1;
-    report = c .report;
-    room = omega (arith, room-next k told (length old) h (c .room), ap length (lent-is told old part told-fits whole), length-drop told old);
-  }
+      told-here : take at old ++ (part ++ reportsOf b later bd′ (drop told (drop at old))) ≡ take at old ++ reportsOf b (drop k sheets) bd (drop at old)
+      unfolding reportsOf
+      told-here =
+          (λ z. take at old ++ (ran .report z ++ reportsOf b later (ran .board z) (drop told (drop at old))))
+          ∙ (λ z. take at old ++ (reportOf b (runOf b r bd) (take (wide z) (drop at old)) ++ reportsOf b later (boardAfter b r bd) (drop (c .report z) (drop at old))))
+          ∙ sym (ap (λ (l : List (List ℕ)). take at old ++ reportsOf b l bd (drop at old)) ahead)
+        where
+          wide : w ≡ reportLength b
+          wide = ew ∙ c .report
+
+      left-here : boardsAfter b later bd′ ≡ boardsAfter b (drop k sheets) bd
+      unfolding boardsAfter
+      left-here = ap (boardsAfter b later) (ran .board) ∙ sym (ap (λ (l : List (List ℕ)). boardsAfter b l bd) ahead)
+
+      pub goes-on : Now runoff′ bd′ (back at told w old part ew fits whole) (at + told) (k + 1)
+      goes-on = record {
+        from = omega (arith, g .from);
+        in-year = omega (arith, h);
+        place = let e : k + 1 - first ≡ suc (k - first) = omega (arith, g .from) in omega (arith, g .place, suc-mul (k - first) told, ap (λ (x : ℕ). x * told) e);
+        numbers = er ∙ g .numbers;
+        long = back-long at told w old part ew fits whole ∙ g .long;
+        size = ap length (ran .board) ∙ after-size b r bd;
+        can = ap (possible b) (ran .board) ∙ after-possible b (c .year .accepted) bd (g .can) r;
+        none-over = none-from n body k h (g .none-over) .1;
+        board-left = left-here ∙ g .board-left;
+        reports-left =
+            (λ z. back-first at told w old part ew fits whole z ++ reportsOf b later bd′ (back-rest at told w old part ew fits whole z))
+            ∙ append-assoc (take at old) part (reportsOf b later bd′ (drop told (drop at old)))
+            ∙ told-here
+            ∙ g .reports-left;
+      }
+
+  -- after the last month nothing is left to do
+  pub ends : (runoff bd old : List ℕ) (at k : ℕ) → Now runoff bd old at k → (k < 12 → ⊥) → RestRan b (drop first sheets) bd₀ old₀ bd old
+  unfolding boardsAfter reportsOf
+  ends runoff bd old at k g h =
+      let over : drop k sheets ≡ [] = sheets-end n body k (omega (arith, h)) in
+      record {
+        board-left = sym (ap (λ (l : List (List ℕ)). boardsAfter b l bd) over) ∙ g .board-left;
+        reports-left = sym (take-append-drop at old) ∙ sym (ap (λ (l : List (List ℕ)). take at old ++ reportsOf b l bd (drop at old)) over) ∙ g .reports-left;
+      }

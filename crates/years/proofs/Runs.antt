@@ -84,6 +84,7 @@ module _ (st rs ps ri body : List ℕ) (told : ℕ) (runoff bd old : List ℕ) (
       pub can-rest : (runoff′ : List ℕ) → length runoff′ ≡ length runoff → CanRest st rs ps ri body m told runoff′ bd old
       can-rest runoff′ er = record {
         year = record { accepted = c .year .accepted; numbers = er ∙ c .year .numbers; bytes = omega (arith, er, c .year .bytes); size = c .year .size; can = c .year .can };
+        month = omega (arith, em, month-in);
         none-over = ap (λ (x : ℕ). firstOver (drop m (sheetsIn x body))) er ∙ none-over;
         report = c .report;
         room = omega (arith, c .room, mul-le-mul {n₁ = 12 - m} {m₁ = told} {n₂ = 12} {m₂ = told} (omega arith) (omega arith));

@@ -70,6 +70,7 @@ pub record CanMonth (st rs ps ri body : List ℕ) (k : ℕ) (runoff bd rp : List
 -- month k and those after it: none of their sheets is over its limit, and there is room for their reports
 pub record CanRest (st rs ps ri body : List ℕ) (k told : ℕ) (runoff bd old : List ℕ) : Type 0 where
   pub year : CanYear st rs ps ri body runoff bd
+  pub month : k ≤ 12
   pub none-over : firstOver (drop k (sheetsIn (length runoff) body)) ≡ none
   pub report : told ≡ reportLength (bodies st rs ps ri)
   pub room : (12 - k) * told ≤ length old

@@ -67,48 +67,39 @@ fn run_month(
     )
 }
 
-// Month k and those after it, each report on its own part of the list. `told` is a report's length.
+// The months from `first` on, each report on its own part of the list. `told` is a report's length. A loop and no call of itself, so that a
+// year needs little more stack than a month.
 fn run_rest(
     stations: &[u8],
     reservoirs: &[u8],
     patterns: &[u8],
     rights: &[u8],
     body: &[u8],
-    k: usize,
+    first: usize,
     told: usize,
     runoff: &mut [u32],
     board: &mut [u64],
     reports: &mut [u64],
 )
-    requires { ⌜ CanRest (now stations) (now reservoirs) (now patterns) (now rights) (now body) k told (now runoff) (now board) (now reports) ⌝ }
-    ensures { λ _. ⌜ RestRan (bodies (now (stations .entry)) (now (reservoirs .entry)) (now (patterns .entry)) (now (rights .entry))) (drop k (sheetsIn (length (now (runoff .entry))) (now (body .entry)))) (now (board .entry)) (now (reports .entry)) (now (board .exit)) (now (reports .exit)) ⌝ }
+    requires { ⌜ CanRest (now stations) (now reservoirs) (now patterns) (now rights) (now body) first told (now runoff) (now board) (now reports) ⌝ }
+    ensures { λ _. ⌜ RestRan (bodies (now (stations .entry)) (now (reservoirs .entry)) (now (patterns .entry)) (now (rights .entry))) (drop first (sheetsIn (length (now (runoff .entry))) (now (body .entry)))) (now (board .entry)) (now (reports .entry)) (now (board .exit)) (now (reports .exit)) ⌝ }
 {
-    if MONTHS <= k {
-        return;
+    let mut at = 0;
+    for k in first..MONTHS {
+        let end = at + told;
+        run_month(
+            stations,
+            reservoirs,
+            patterns,
+            rights,
+            body,
+            k,
+            runoff,
+            board,
+            &mut reports[at..end],
+        );
+        at = end;
     }
-    run_month(
-        stations,
-        reservoirs,
-        patterns,
-        rights,
-        body,
-        k,
-        runoff,
-        board,
-        &mut reports[..told],
-    );
-    run_rest(
-        stations,
-        reservoirs,
-        patterns,
-        rights,
-        body,
-        k + 1,
-        told,
-        runoff,
-        board,
-        &mut reports[told..],
-    );
 }
 
 // The months from the board's on, where only the runoff can be turned down. No month is run before it is known that none will be refused: the
