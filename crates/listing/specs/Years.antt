@@ -44,12 +44,13 @@ leastList b = replicate (12 * reportLength b) 0
 abbrev pub yearRefusal : List ℕ → List ℕ → Standing → ℕ → Option Answer
 yearRefusal f book s y = runRefusal f book y (s .board) (leastList (basinOf f))
 
--- the sheets are those from the month on at which the board stands
+-- what the next year adds: the sheets are those from the month on at which the board stands
 unfoldable pub nextYear : List ℕ → List ℕ → Standing → ℕ → Step
 nextYear f book s y = yearStep (yearRefusal f book s y) (basinOf f) s (sheetsLeft f book y (s .board))
 
 -- ---- year after year
 
+-- what the years add, each from where the one before left the run, until one is turned down
 unfoldable pub yearsText : List ℕ → List ℕ → Standing → List ℕ → List ℕ
 yearsText f book s [] = []
 yearsText f book s (y ∷ ys) =
