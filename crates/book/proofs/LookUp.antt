@@ -12,9 +12,7 @@ use Rattle.rules.specs.Basin.{rows}
 use Rattle.rules.specs.declared.Verdict.the-variants.{Accepted, Book, Year}
 use Rattle.rules.specs.Answers.{Answer, told, orElse, unless}
 use Rattle.rules.proofs.Answers.{or-first, or-second, unless-none}
-use Rattle.sections.specs.File.{sectionOf}
-use Rattle.records.specs.Records.{rowsOf, bodies, basinOf}
-use Rattle.records.proofs.Rows.{rows-are}
+use Rattle.records.specs.Records.{basinOf}
 use Rattle.filecheck.specs.Check.{checkOf}
 use Rattle.filecheck.proofs.Accepted.{accepted-facts}
 use Rattle.answers.specs.Answers.{accepted, fileRefusal, settled}
@@ -26,11 +24,6 @@ use Rattle.book.proofs.Bodies.{body-length}
 none-of : {A : Type 0} (o : Option A) → isSome o ≡ false → o ≡ none
 none-of none e = refl
 none-of (some x) e = absurd (let z : _≡_ {A = ℕ} 0 1 = cc in omega arith)
-
--- how many rows a file has, by its body of stations
-pub rows-counted : (f : List ℕ) {st : List ℕ} → st ≡ sectionOf f 0 → rowsOf st ≡ rows (basinOf f)
-unfolding basinOf bodies
-rows-counted f e = ap rowsOf e ∙ sym (rows-are (sectionOf f 0))
 
 body-most : (n : ℕ) (k : List ℕ) (o : Option ℕ) → length (bodyWhere o n k) ≤ bodySize n
 unfolding bodyWhere bodyOf

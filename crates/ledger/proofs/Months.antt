@@ -1,7 +1,7 @@
 -- A month call on the tally's board: it is refused just where the tally refuses it, and leaves what the tally says. Assumes nothing.
 use mathlib.Core.Path.{_≡_, refl, ap, _∙_}
 use mathlib.Core.Bool.{Bool, true, false}
-use mathlib.Core.List.{List, [], _∷_}
+use mathlib.Core.List.{List}
 use mathlib.Core.Option.{Option, none, some}
 use Prim.Native.Nat.{ℕ}
 use lib.ListN.{length}
@@ -9,7 +9,7 @@ use Rattle.general.proofs.Tests.{eqb-same, and-true}
 use Rattle.rules.specs.Basin.{Basin}
 use Rattle.rules.specs.Month.{MonthRun, shortCount}
 use Rattle.rules.specs.Tally.{Call, listsFit, overLimit, overAnswer, refusal, Tally, pending, nextRun, standing, afterJudged, afterCall, afterCalls, answerJudged, answerOf}
-use Rattle.rules.specs.Years.{monthly, countsAs, afterEntry, entryAnswer}
+use Rattle.rules.specs.Years.{countsAs, afterEntry, entryAnswer}
 use Rattle.rules.specs.Answers.{Answer, orElse, unless}
 use Rattle.rules.specs.Accepted.{Accepted}
 use Rattle.rules.specs.Theorems.{Possible}

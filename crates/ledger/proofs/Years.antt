@@ -1,7 +1,7 @@
 -- A year run on the tally's board: it is refused just where the tally refuses it, and leaves what the tally says of each of its months. Assumes nothing.
 use mathlib.Core.Path.{_≡_, refl, sym, ap, _∙_, subst}
 use mathlib.Core.Bool.{Bool, true}
-use mathlib.Core.List.{List, [], _∷_, _++_, map}
+use mathlib.Core.List.{List, [], _∷_, map}
 use mathlib.Core.Option.{Option, none, some}
 use Prim.Native.Nat.{ℕ, _*_, _≤_}
 use native.Mathlib.Nat.{mul-le-mul, suc-mul}
@@ -10,10 +10,9 @@ use lib.ListN.{length, take, drop, length-map, length-drop}
 use lib.Seq.{length-take-le, take-at, drop-at}
 use Rattle.general.specs.Tests.{_and_}
 use Rattle.general.proofs.Tests.{le-of}
-use Rattle.places.specs.Board.{monthAt}
 use Rattle.rules.specs.Basin.{Basin, rows}
 use Rattle.rules.specs.Tally.{Call, reportLength, refusal, Tally, nextRun, standing, afterCall, afterCalls}
-use Rattle.rules.specs.Years.{YearRun, leastCall, callsIn, roomForYear, firstRefusal, runAnswer, yearly, runCounts, countsAs, afterEntry, entryAnswer}
+use Rattle.rules.specs.Years.{YearRun, leastCall, callsIn, roomForYear, firstRefusal, runAnswer, runCounts, countsAs, afterEntry, entryAnswer}
 use Rattle.rules.specs.Answers.{Answer, orElse, unless}
 use Rattle.rules.specs.Accepted.{Accepted}
 use Rattle.rules.specs.Theorems.{Possible}
@@ -23,9 +22,9 @@ use Rattle.rules.proofs.Possible.{call-possible}
 use Rattle.records.specs.Records.{basinOf}
 use Rattle.filecheck.specs.Check.{checkOf}
 use Rattle.answers.specs.Answers.{lentRefusal}
-use Rattle.month.specs.Month.{callWith, monthRefusal, Outcome, monthOf}
+use Rattle.month.specs.Month.{monthRefusal, Outcome, monthOf}
 use Rattle.book.specs.Book.{lookupRefusal, yearPart}
-use Rattle.years.specs.Years.{sheetsIn, yearSheets, sheetsLeft, Made, callsMade, yearMade, runFits, runSettled, yearOf, YearMeets}
+use Rattle.years.specs.Years.{yearSheets, sheetsLeft, Made, callsMade, runFits, runSettled, yearOf, YearMeets}
 use Rattle.years.proofs.Sheets.{sheets-length}
 use Rattle.ledger.specs.Account.{MonthCall, YearCall, yearEvent, callOf, runIn, Tells, MonthReport, TellsEach, RunReports, tallyBoard, Follows}
 use Rattle.ledger.proofs.Tally.{tally-month, tally-possible}

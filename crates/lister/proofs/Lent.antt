@@ -13,11 +13,10 @@ use Rattle.rules.specs.Answers.{Answer, told}
 use Rattle.rules.specs.Tally.{reportLength}
 use Rattle.sections.specs.File.{sectionOf}
 use Rattle.records.specs.Records.{rowsOf, rightCount, basinOf, bodies}
-use Rattle.records.proofs.Rows.{rows-are}
 use Rattle.filecheck.proofs.Accepted.{accepted-facts}
 use Rattle.boards.specs.Board.{possible}
 use Rattle.places.specs.Report.{evaporationPlace}
-use Rattle.records.proofs.Decoded.{basin-bodies, bodies-rows, bodies-reservoirs, bodies-rights}
+use Rattle.records.proofs.Decoded.{basin-bodies, bodies-rows, bodies-reservoirs, bodies-rights, file-rows}
 use Rattle.boards.proofs.Bounds.{bounded}
 use Rattle.month.specs.Run.{CanRunSheet, SheetRan}
 use Rattle.month.proofs.Going.{still-possible, losses-told}
@@ -108,12 +107,6 @@ module _ (f st rs ps ri : List ℕ) (e₀ : st ≡ sectionOf f 0) (e₁ : rs ≡
 
 -- ---- a part that is no whole sheet
 
--- how many rows the file has, by its body of stations
-module _ (f st : List ℕ) (e : st ≡ sectionOf f 0) where
-  pub rows-here : rowsOf st ≡ rows (basinOf f)
-  unfolding basinOf bodies
-  rows-here = ap rowsOf e ∙ sym (rows-are (sectionOf f 0))
-
 module _ (f part : List ℕ) (p : Progress) (bd rp out : List ℕ) (can : CanStep f p bd rp out) where
   facts : Accepted (basinOf f)
   facts = accepted-facts f (can .in-order .accepted)
@@ -135,4 +128,4 @@ module _ (f part : List ℕ) (p : Progress) (bd rp out : List ℕ) (can : CanSte
       let q : Refused p (told Lists) out out′ r = subst (λ (x : Answer). Refused p x out out′ r) ea w in
       told-as (refusalLine (told Lists)) (record { text = refusalLine (told Lists); standing = standing p bd; more = false }) (q .put)
       (λ i. record { text = refusalLine (told Lists); standing = record { months = q .months i; board = bd }; more = q .more i })
-      (short-meets (basinOf f) (standing p bd) part (omega (arith, z)) (λ v. n (omega (arith, v, rows-here f st e)))) (can .in-order .can) (omega (arith, q .months))
+      (short-meets (basinOf f) (standing p bd) part (omega (arith, z)) (λ v. n (omega (arith, v, file-rows f e)))) (can .in-order .can) (omega (arith, q .months))

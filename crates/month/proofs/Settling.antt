@@ -23,6 +23,7 @@ use Rattle.records.proofs.Decoded.{basin-bodies, reservoirs-are, rights-are}
 use Rattle.places.specs.Board.{boardLength}
 use Rattle.rules.specs.Answers.{Answer, told, orElse}
 use Rattle.rules.specs.Tally.{mostRunoff, reportLength, listsFit, overLimit, overAnswer}
+use Rattle.rules.proofs.Answers.{or-some}
 use Rattle.answers.specs.Answers.{accepted, lentRefusal, settled}
 use Rattle.answers.proofs.Answers.{settled-some, Clear, lent-none}
 use Rattle.month.specs.Month.{allFit, monthRefusal, Outcome, monthSettled, monthOf, MonthMeets}
@@ -91,11 +92,6 @@ clear-over (some i) e = absurd (omega arith)
 
 -- ---- the contract
 
--- what is refused first stays refused, whatever comes after
-first-stays : (x later : Option Answer) (a : Answer) → x ≡ some a → orElse x later ≡ some a
-unfolding orElse
-first-stays x later a e = rw e
-
 module _ (f runoff board report : List ℕ) where
   abbrev fits : Bool
   fits = allFit (basinOf f) runoff board report
@@ -105,7 +101,7 @@ module _ (f runoff board report : List ℕ) where
 
   refused-first : (a : Answer) → a ≡ settled lent → (a .number ≡ 0 → ⊥) → monthRefusal f runoff board report ≡ some a
   unfolding monthRefusal
-  refused-first a e n = first-stays lent (overAnswer (overLimit runoff)) a (settled-some lent a e n)
+  refused-first a e n = or-some lent (overAnswer (overLimit runoff)) a (settled-some lent a e n)
 
   pub month-refused : (a : Answer) → a ≡ settled lent → (a .number ≡ 0 → ⊥) → MonthMeets f runoff board report (record { answer = a; board = board; report = report })
   unfolding monthOf monthSettled

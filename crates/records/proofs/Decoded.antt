@@ -1,5 +1,5 @@
 -- The decoded lists of a basin, record by record; those of the stations stand in Rows. Assumes nothing.
-use mathlib.Core.Path.{_≡_, refl}
+use mathlib.Core.Path.{_≡_, refl, sym, ap, _∙_}
 use mathlib.Core.List.{List, []}
 use Prim.Native.Nat.{ℕ, _<_}
 use lib.ListN.{length, getD}
@@ -48,6 +48,11 @@ module _ (st rs ps ri : List ℕ) where
   pub bodies-rights : length ((bodies st rs ps ri) .rights) ≡ rightCount ri
   unfolding bodies
   bodies-rights = rights-are ri
+
+-- how many rows a file has, by its body of stations
+pub file-rows : (f : List ℕ) {st : List ℕ} → st ≡ sectionOf f 0 → rowsOf st ≡ rows (basinOf f)
+unfolding basinOf bodies
+file-rows f e = ap rowsOf e ∙ sym (rows-are (sectionOf f 0))
 
 pub basin-bodies : (f : List ℕ) → basinOf f ≡ bodies (sectionOf f 0) (sectionOf f 1) (sectionOf f 2) (sectionOf f 3)
 unfolding basinOf bodies

@@ -1,6 +1,6 @@
 -- The month calls of a year: on an accepted file and a possible board, with room for their reports, they are refused just where a sheet is over its limit, and
 -- where none is they leave what the months leave. Assumes nothing.
-use mathlib.Core.Path.{_≡_, refl, sym, ap, _∙_}
+use mathlib.Core.Path.{_≡_, refl, ap, _∙_}
 use mathlib.Core.Bool.{true}
 use mathlib.Core.List.{List, [], _∷_, _++_}
 use mathlib.Core.Option.{Option, none, some}
@@ -23,11 +23,10 @@ use Rattle.filecheck.specs.Check.{checkOf}
 use Rattle.filecheck.proofs.Accepted.{accepted-facts}
 use Rattle.boards.specs.Board.{possible}
 use Rattle.boards.specs.Report.{reportOf}
-use Rattle.answers.specs.Answers.{lentRefusal}
 use Rattle.answers.proofs.Answers.{lent-none}
 use Rattle.month.specs.Month.{allFit, monthRefusal, runOf, boardAfter, Outcome, monthSettled, monthOf}
 use Rattle.month.proofs.Going.{still-possible}
-use Rattle.years.specs.Years.{Made, callsMade}
+use Rattle.years.specs.Years.{callsMade}
 use Rattle.years.specs.Runs.{firstOver, boardsAfter, reportsOf}
 use Rattle.years.proofs.Rest.{after-size}
 

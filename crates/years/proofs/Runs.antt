@@ -12,7 +12,6 @@ use Rattle.general.specs.Tests.{_and_}
 use Rattle.general.proofs.Tests.{both-of, eq-of, le-of}
 use Rattle.places.specs.Board.{boardLength, monthAt}
 use Rattle.places.specs.Report.{reportEnd}
-use Rattle.rules.specs.declared.Verdict.the-variants.{Accepted as AcceptedFile}
 use Rattle.rules.specs.Accepted.{Accepted}
 use Rattle.rules.specs.Answers.{Answer, orElse}
 use Rattle.rules.specs.Basin.{Basin, rows}
@@ -21,9 +20,8 @@ use Rattle.rules.specs.Years.{roomForYear, runAnswer}
 use Rattle.rules.proofs.Answers.{or-none, or-some}
 use Rattle.sections.specs.File.{sectionOf}
 use Rattle.records.specs.Records.{rowsOf, reservoirCount, rightCount, bodies, basinOf}
-use Rattle.records.proofs.Decoded.{basin-bodies, reservoirs-are, rights-are}
+use Rattle.records.proofs.Decoded.{file-rows, basin-bodies, reservoirs-are, rights-are}
 use Rattle.records.proofs.Rows.{rows-are}
-use Rattle.filecheck.specs.Check.{checkOf}
 use Rattle.filecheck.proofs.Accepted.{accepted-facts}
 use Rattle.boards.specs.Board.{possible}
 use Rattle.boards.specs.Bodies.{Counted}
@@ -34,7 +32,7 @@ use Rattle.answers.proofs.Answers.{settled-some, Clear, lent-none}
 use Rattle.month.specs.Month.{Outcome}
 use Rattle.book.specs.Book.{bodySize, lookupRefusal, yearPart}
 use Rattle.years.specs.Years.{sheetsIn, yearSheets, sheetsLeft, Made, callsMade, yearMade, runFits, runRefusal, runSettled, yearOf, YearMeets}
-use Rattle.years.specs.Runs.{firstOver, boardsAfter, reportsOf, madeOf, CanRead, CanJudge, CanRest, RestRan, CanThrough, WentThrough, bodyRefusal, BodyMeets}
+use Rattle.years.specs.Runs.{firstOver, madeOf, CanRead, CanJudge, CanRest, RestRan, CanThrough, WentThrough, bodyRefusal, BodyMeets}
 use Rattle.years.proofs.Sheets.{sheets-length, sheets-wide, clear-first}
 use Rattle.years.proofs.Calls.{CanCall, refused-over, made-months}
 
@@ -174,8 +172,7 @@ module _ (f body bd old : List ℕ) where
       same = (λ z. bodies (e₀ z) (e₁ z) (e₂ z) (e₃ z)) ∙ sym (basin-bodies f)
 
       rows-same : length st / 8 ≡ rows basin
-      unfolding bodies
-      rows-same = sym (rows-are st) ∙ ap rows same
+      rows-same = file-rows f e₀
 
       pub counted-here : Counted st rs ri
       counted-here = rw (e₀, e₁, e₃) (counted f (accepted-facts f (k .file-ok)))

@@ -5,7 +5,7 @@ use mathlib.Core.List.{List, [], _∷_}
 use mathlib.Core.Option.{Option, none, some}
 use Prim.Native.Nat.{ℕ, _-_, _≤_}
 use native.Mathlib.Omega.{arith}
-use lib.ListN.{length, drop, length-drop}
+use lib.ListN.{length, length-drop}
 use Rattle.general.specs.Tables.{All}
 use Rattle.places.specs.Board.{boardLength, monthAt}
 use Rattle.rules.specs.declared.Verdict.the-variants.{Accepted as AcceptedFile}
@@ -18,9 +18,9 @@ use Rattle.filecheck.specs.Check.{checkOf}
 use Rattle.boards.specs.Board.{possible}
 use Rattle.answers.specs.Answers.{accepted, lentRefusal, settled}
 use Rattle.answers.proofs.Answers.{Clear, lent-clear}
-use Rattle.month.specs.Month.{boardAfter, Outcome, monthOf}
+use Rattle.month.specs.Month.{boardAfter, monthOf}
 use Rattle.book.specs.Book.{lookupRefusal, yearPart}
-use Rattle.years.specs.Years.{sheetsIn, yearSheets, sheetsLeft, Made, yearMade, runFits, runRefusal, runSettled, yearOf}
+use Rattle.years.specs.Years.{yearSheets, sheetsLeft, Made, yearMade, runFits, runRefusal, runSettled, yearOf}
 use Rattle.years.specs.Runs.{firstOver, boardsAfter}
 use Rattle.years.specs.Theorems.{afterMonths, YearOfMonths}
 use Rattle.years.proofs.Sheets.{sheets-length}

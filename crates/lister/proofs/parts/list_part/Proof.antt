@@ -3,7 +3,8 @@ use mathlib.Core.Path.{sym, _∙_}
 use native.Mathlib.Omega.{arith}
 use denote.Ref.{now}
 use lib.Seq.{length-take-le}
-use Rattle.lister.proofs.Lent.{rows-here, few-rows, part-ended, part-short}
+use Rattle.records.proofs.Decoded.{file-rows}
+use Rattle.lister.proofs.Lent.{few-rows, part-ended, part-short}
 use borrow.Author.Needs.{needs}
 use Rattle.lister.proofs.parts.list_part.Statement.{statement}
 use Rattle.lister.proofs.parts.list_part.Tie as tie
@@ -36,17 +37,17 @@ returns-2 c =
 array-borrow-prefix-runoff : tie.Need-array-borrow-prefix-runoff
 array-borrow-prefix-runoff c =
     let s = c .before .before .before .before .before .before .before .before .args in
-    omega (arith, few-rows (now (s .file)) (now (s .part)) (s .from) (now (s .board)) (now (s .report)) (now (s .out)) (c .before .before .before .before .before .before .before .before .pre), rows-here (now (s .file)) _ (c .before .section .ensures))
+    omega (arith, few-rows (now (s .file)) (now (s .part)) (s .from) (now (s .board)) (now (s .report)) (now (s .out)) (c .before .before .before .before .before .before .before .before .pre), file-rows (now (s .file)) (c .before .section .ensures))
 
 slice-aggregate-list-sheet : tie.Need-slice-aggregate-list-sheet
 slice-aggregate-list-sheet c =
     let s = c .before .before .before .before .before .before .before .before .before .args in
-    sym (length-take-le _ _ (omega (arith, few-rows (now (s .file)) (now (s .part)) (s .from) (now (s .board)) (now (s .report)) (now (s .out)) (c .before .before .before .before .before .before .before .before .before .pre), rows-here (now (s .file)) _ (c .before .before .section .ensures))))
+    sym (length-take-le _ _ (omega (arith, few-rows (now (s .file)) (now (s .part)) (s .from) (now (s .board)) (now (s .report)) (now (s .out)) (c .before .before .before .before .before .before .before .before .before .pre), file-rows (now (s .file)) (c .before .before .section .ensures))))
 
 list-sheet-requires : tie.Need-list-sheet-requires
 list-sheet-requires c κs =
     let s = c .before .before .before .before .before .before .before .before .before .before .before .before .args in
-    let e = rows-here (now (s .file)) _ (c .before .before .before .before .before .section .ensures) in
+    let e = file-rows (now (s .file)) (c .before .before .before .before .before .section .ensures) in
     (c .before .before .before .before .before .before .before .before .before .before .before .before .pre, omega (arith, c .before .before .before .before .if2 .left, e), (length-take-le _ _ (omega (arith, few-rows (now (s .file)) (now (s .part)) (s .from) (now (s .board)) (now (s .report)) (now (s .out)) (c .before .before .before .before .before .before .before .before .before .before .before .before .pre), e))) ∙ e)
 
 same-length-2 : tie.Need-same-length-2
