@@ -16,8 +16,6 @@ use std::collections::BTreeMap;
 /// The month's own arrays and what else it needs: a list of 64 numbers more goes beyond.
 /// `include/river.h` names a higher one, so that it need not follow every change.
 const LIMIT: usize = 2560;
-/// That one, for the calls that have a book beside the file.
-const LIMIT_WITH_A_BOOK: usize = 4096;
 
 /// The stack that a call is made on, more than any of them needs, the plain ones too.
 const STACK: usize = 1 << 16;
@@ -28,7 +26,6 @@ const PLAIN_YEAR: &str = "plain run_year";
 fn limit(name: &str) -> usize {
     match name {
         PLAIN | PLAIN_YEAR => STACK,
-        "find_year" | "run_year" => LIMIT_WITH_A_BOOK,
         _ => LIMIT,
     }
 }

@@ -46,6 +46,37 @@ fn files_and_expected_listing_are_the_years() {
     assert_eq!(text, years::listing(PROVO, PROVO_BOOK));
 }
 
+/// The book that `rivercalls` looks years up in: 1889, the worked October's sheet twelve times,
+/// and 1890, the same but for a March that is over the limit at the second and third rows.
+/// From November on, after the worked October, the first has eleven months.
+#[test]
+fn the_book_of_rivercalls_and_what_it_prints_of_it() {
+    let folder = Path::new(env!("CARGO_MANIFEST_DIR")).join("../crates/rivercalls");
+    let sheets = |march: [u32; 3]| {
+        let sheet = |month| if month == 5 { march } else { OCTOBER_RUNOFF };
+        (0..12).flat_map(sheet).collect()
+    };
+    let good = WaterYear { year: 1889, runoff: sheets(OCTOBER_RUNOFF) };
+    let bad = WaterYear { year: 1890, runoff: sheets([2000, MOST_RUNOFF + 1, u32::MAX]) };
+    let book = encode(&[good, bad]);
+    assert_eq!(fs::read(folder.join("data/october.book.bin")).unwrap(), book);
+
+    let mut tally = Tally::new(&october().encode());
+    assert_eq!(tally.call(&OCTOBER_RUNOFF, 27), (0, 2));
+    let (reports, text) = (12 * 27, fs::read_to_string(folder.join("stdout")).unwrap());
+    for (line, year, list) in [
+        ("run of 1888, list of 323", 1888, reports - 1),
+        ("run of 1890, list of 323", 1890, reports - 1),
+        ("run of 1890, March over the limit", 1890, reports),
+        ("run of 1889, from November", 1889, reports),
+    ] {
+        let (number, place) = tally.run_year(&book, year, list);
+        assert!(text.contains(&format!("{line}: {number} {place}\n")), "{line}");
+    }
+    let pending: i128 = tally.pending_returns().iter().flatten().sum();
+    assert!(text.ends_with(&format!("stock 0 0 {} {pending}\n", tally.storages[0])));
+}
+
 /// What `examples/year.c` prints of 1964 is what the tally has: the flow at the last row in
 /// each month, and the lake's storage after September.
 #[test]
