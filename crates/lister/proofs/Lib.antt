@@ -2,4 +2,3 @@ pub mod Begun
 pub mod Stepping
 pub mod Lent
 pub mod Cutting
-pub mod YearOpened

@@ -1,2 +1,1 @@
 pub mod Lister
-pub mod Years

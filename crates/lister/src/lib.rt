@@ -1,9 +1,7 @@
-// What a program that lists does between reading and writing: it opens a listing, and lists the months sheet by sheet; of a runoff book it
-// opens a year, and lists the sheets of that.
+// What a program that lists does between reading and writing: it opens a listing, and lists the months sheet by sheet.
 pub mod blocks;
 pub mod opening;
 pub mod parts;
-pub mod yearly;
 
 // How far a listing has come: the months listed, where its text ends in the lent list, and whether it goes on.
 pub struct Progress {

@@ -1,5 +1,3 @@
 pub mod Steps
 pub mod Blocks
-pub mod Years
-pub mod Bodies
 pub mod October

@@ -1,5 +1,4 @@
 pub mod Listing
 pub mod Run
 pub mod Steps
-pub mod Years
 pub mod October

@@ -10,10 +10,10 @@ use Rattle.records.specs.Records.{basinOf}
 use Rattle.years.specs.Runs.{CanJudge}
 use Rattle.lines.specs.Putting.{mostText}
 use Rattle.listing.specs.Run.{sheetBytes}
-use Rattle.listing.specs.Years.{partLeft}
+use Rattle.yearly.specs.Years.{partLeft}
 use Rattle.lister.specs.declared.Progress.{Progress}
-use Rattle.lister.specs.Years.{YearOpened}
-use Rattle.lister.proofs.YearOpened.{opened-months, left-most}
+use Rattle.yearly.specs.Opening.{YearOpened}
+use Rattle.yearly.proofs.Opened.{opened-months, left-most}
 use Rattle.printing.specs.Going.{Going, CanRead, Went}
 use Rattle.printing.proofs.Keeping.{going-first}
 use Rattle.riveryear.specs.Going.{CanListBook, CanListYears, YearWent}

@@ -5,11 +5,11 @@ ghost use Rattle.riveryear.specs.Going.{CanListYears, YearWent};
 use crate::words::year_asked;
 use lister::Progress;
 use lister::blocks::sheet_size;
-use lister::yearly::open_year;
-use lister::yearly::sheets_left;
 use printing::blocks::Sent;
 use printing::blocks::list_read;
 use printing::output::make_room;
+use yearly::open_year;
+use yearly::sheets_left;
 
 // One year: the refusal of its run, or its months from the board's on.
 fn list_year(

@@ -27,12 +27,12 @@ use Rattle.years.specs.Years.{sheetsIn, yearSheets, sheetsLeft, runRefusal}
 use Rattle.years.specs.Runs.{firstOver}
 use Rattle.years.proofs.Sheets.{sheets-from, sheets-end, none-from}
 use Rattle.years.proofs.Theorems.{none-over}
 use Rattle.listing.specs.Listing.{header}
 use Rattle.listing.specs.Run.{sheetBytes, Standing, Step, sheetStep, stepOf, begin}
 use Rattle.listing.specs.Steps.{Place, Walk, textsOf, stepsOf}
-use Rattle.listing.specs.Years.{sheetsListed, yearStep, leastList, yearRefusal, nextYear, yearsText, yearsAfterHeader, yearsListing, SheetsCalled, YearMade, partLeft, Later, YearsMade, YearsList, RefusalListsYears}
+use Rattle.yearly.specs.Years.{sheetsListed, yearStep, leastList, yearRefusal, nextYear, yearsText, yearsAfterHeader, yearsListing, SheetsCalled, YearMade, partLeft, Later, YearsMade, YearsList, RefusalListsYears}
 use Rattle.listing.proofs.Steps.{step-some, whole-refusal}
 use Rattle.listing.proofs.Blocks.{calls-on}
 
 -- ---- the sheets of a body, one after another
 

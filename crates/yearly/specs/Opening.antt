@@ -10,9 +10,9 @@ use Rattle.years.specs.Runs.{CanJudge}
 use Rattle.lines.specs.Putting.{mostText, Put}
 use Rattle.listing.specs.Listing.{refusalLine}
 use Rattle.listing.specs.Run.{Standing, Step}
-use Rattle.listing.specs.Years.{yearRefusal}
+use Rattle.yearly.specs.Years.{yearRefusal}
 use Rattle.lister.specs.declared.Progress.{Progress}
 use Rattle.lister.specs.Lister.{standing}
 
 -- A year that is turned down ends the listing with its refusal. Of any other nothing is put yet: its sheets follow.
 unfoldable pub yearOpening : Option Answer → Standing → Step

@@ -1,10 +1,10 @@
--- `lister::yearly::open_year` meets its contract. Assumes nothing.
+-- `yearly::open_year` meets its contract. Assumes nothing.
 use native.Mathlib.Omega.{arith}
 use denote.Ref.{now}
-use Rattle.lister.proofs.YearOpened.{year-refused, year-accepted}
+use Rattle.yearly.proofs.Opened.{year-refused, year-accepted}
 use borrow.Author.Needs.{needs}
-use Rattle.lister.proofs.yearly.open_year.Statement.{statement}
-use Rattle.lister.proofs.yearly.open_year.Tie as tie
+use Rattle.yearly.proofs.open_year.Statement.{statement}
+use Rattle.yearly.proofs.open_year.Tie as tie
 
 judge-year-requires : tie.Need-judge-year-requires
 judge-year-requires c κs = c .before .before .before .before .pre .in-order

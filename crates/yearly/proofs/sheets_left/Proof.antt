@@ -1,12 +1,12 @@
--- `lister::yearly::sheets_left` meets its contract. Assumes nothing.
+-- `yearly::sheets_left` meets its contract. Assumes nothing.
 use native.Mathlib.Omega.{arith}
 use denote.Ref.{now}
 use Rattle.records.specs.Records.{basinOf}
 use Rattle.boards.proofs.Bounds.{month-most}
-use Rattle.lister.proofs.YearOpened.{first-small, left-none, left-some}
+use Rattle.yearly.proofs.Opened.{first-small, left-none, left-some}
 use borrow.Author.Needs.{needs}
-use Rattle.lister.proofs.yearly.sheets_left.Statement.{statement}
-use Rattle.lister.proofs.yearly.sheets_left.Tie as tie
+use Rattle.yearly.proofs.sheets_left.Statement.{statement}
+use Rattle.yearly.proofs.sheets_left.Tie as tie
 
 year-part-requires : tie.Need-year-part-requires
 year-part-requires c κs = search needs

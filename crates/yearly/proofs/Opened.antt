@@ -26,10 +26,10 @@ use Rattle.years.specs.Runs.{CanJudge}
 use Rattle.years.proofs.Numbered.{run-numbered}
 use Rattle.listing.specs.Listing.{refusalLine}
 use Rattle.listing.specs.Run.{sheetBytes, Standing, Step}
-use Rattle.listing.specs.Years.{leastList, yearRefusal, partLeft}
+use Rattle.yearly.specs.Years.{leastList, yearRefusal, partLeft}
 use Rattle.lister.specs.declared.Progress.{Progress}
 use Rattle.lister.specs.Lister.{standing, Refused}
-use Rattle.lister.specs.Years.{yearOpening, YearOpened}
+use Rattle.yearly.specs.Opening.{yearOpening, YearOpened}
 
 -- ---- the start of a year
 

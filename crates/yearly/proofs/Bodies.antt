@@ -31,13 +31,13 @@ use Rattle.years.specs.Years.{yearSheets, sheetsLeft}
 use Rattle.years.specs.Runs.{firstOver}
 use Rattle.years.proofs.Sheets.{sheets-from, sheets-end, none-from}
 use Rattle.years.proofs.Theorems.{none-over}
 use Rattle.listing.specs.Listing.{header}
 use Rattle.listing.specs.Run.{sheetBytes, Standing, Step, sheetStep, stepOf, begin}
 use Rattle.listing.specs.Steps.{Walk, textsOf, start}
-use Rattle.listing.specs.Years.{sheetsListed, yearStep, leastList, yearRefusal, nextYear, yearsText, yearsAfterHeader, yearsListing, YearsAccepted, bodiesOf, YearsAsMonths}
+use Rattle.yearly.specs.Years.{sheetsListed, yearStep, leastList, yearRefusal, nextYear, yearsText, yearsAfterHeader, yearsListing, YearsAccepted, bodiesOf, YearsAsMonths}
 use Rattle.listing.proofs.Steps.{steps-list}
 use Rattle.listing.proofs.Blocks.{walk-join, walk-whole, texts-join}
-use Rattle.listing.proofs.Years.{listed-more, sheetsOf, fromSheet, next, month-made, year-found}
+use Rattle.yearly.proofs.Years.{listed-more, sheetsOf, fromSheet, next, month-made, year-found}
 
 -- ---- the month at which a board stands
 

@@ -1,13 +1,13 @@
 // A year of a runoff book in a listing: whether its months may be listed, and the sheets to list them from.
 ghost use mathlib.Core.Path.{_≡_};
 ghost use Rattle.years.specs.Runs.{CanJudge};
-ghost use Rattle.listing.specs.Years.{partLeft};
-ghost use Rattle.lister.specs.Years.{CanOpenYear, YearOpened};
-use crate::Progress;
-use crate::blocks::sheet_size;
-use crate::parts::refuse;
+ghost use Rattle.yearly.specs.Years.{partLeft};
+ghost use Rattle.yearly.specs.Opening.{CanOpenYear, YearOpened};
 use book::find::year_part;
 use closing::in_year;
+use lister::Progress;
+use lister::blocks::sheet_size;
+use lister::parts::refuse;
 use places::board::MONTH;
 use years::run::judge_year;
 

@@ -1,0 +1,3 @@
+pub mod Years
+pub mod Bodies
+pub mod Opened
