@@ -15,8 +15,8 @@ fn look_up(file: &[u8], book: &[u8]) {
     say(b"year 1889:", find_year(file, book, 1889));
 }
 
-// Twelve reports have 324 numbers. Refusals 10 and 9 come before 6, and 6 before 7 and 8.
-fn refused_runs(file: &[u8], book: &[u8], board: &mut [u64], reports: &mut [u64]) {
+// Twelve reports have 324 numbers. Refusals 9 and 10 come before 6, and 6 before 8.
+fn short_lists(file: &[u8], book: &[u8], board: &mut [u64]) {
     let mut few = [0u64; 323];
     say(
         b"run of 1888, list of 323:",
@@ -30,6 +30,10 @@ fn refused_runs(file: &[u8], book: &[u8], board: &mut [u64], reports: &mut [u64]
         b"run of 1890, list of 323:",
         run_year(file, book, 1890, board, &mut few),
     );
+}
+
+// Refusal 7 comes before 8.
+fn refused_runs(file: &[u8], book: &[u8], board: &mut [u64], reports: &mut [u64]) {
     let mut thirteenth = [0u64; BOARD_LENGTH];
     thirteenth[MONTH] = 12;
     say(
@@ -46,6 +50,7 @@ fn refused_runs(file: &[u8], book: &[u8], board: &mut [u64], reports: &mut [u64]
 pub fn call(file: &[u8], book: &[u8], board: &mut [u64]) {
     let mut reports = [0u64; 324];
     look_up(file, book);
+    short_lists(file, book, board);
     refused_runs(file, book, board, &mut reports);
     say(
         b"run of 1889, from November:",
