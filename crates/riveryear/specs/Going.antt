@@ -17,8 +17,8 @@ abbrev pub yearBytes : ℕ
 yearBytes = 3072
 
 -- the most years that are listed: more words than any system hands over, and few enough that their months can be counted
-abbrev pub mostYears : ℕ
-mostYears = 1099511627776
+abbrev pub mostAsked : ℕ
+mostAsked = 1099511627776
 
 -- a listing that was opened on an accepted file and goes on, and so many years
 pub record CanListBook (f : List ℕ) (years : ℕ) (p : Progress) (board out : List ℕ) : Type 0 where
@@ -29,7 +29,7 @@ pub record CanListBook (f : List ℕ) (years : ℕ) (p : Progress) (board out : 
   pub within : p .at ≤ 65536
   pub first : p .months ≡ 0
   pub more : p .more ≡ true
-  pub few : years ≤ mostYears
+  pub few : years ≤ mostAsked
 
 -- a listing that goes on, and whose months can be counted to the end of so many years
 pub record CanListYears (f : List ℕ) (years : ℕ) (p : Progress) (board report out : List ℕ) : Type 0 where

@@ -1,7 +1,7 @@
 // Lists the months of picked years of a runoff book: `riveryear BASIN BOOK YEAR ..`. The first year is run on the fresh board of the basin, each
 // other where the one before left the board. All that is printed is made by `lister`; here it is read and written.
 ghost use Prim.Native.Nat.{_≤_};
-ghost use Rattle.riveryear.specs.Going.{mostYears, CanListBook};
+ghost use Rattle.riveryear.specs.Going.{mostAsked, CanListBook};
 use files::read_whole;
 use lister::Progress;
 use lister::opening::open_listing;
@@ -13,19 +13,19 @@ mod picked;
 mod words;
 
 // More words than any system hands over, and few enough that their months can be counted.
-const MOST_YEARS: usize = 1099511627776;
+const MOST_ASKED: usize = 1099511627776;
 
 // How many years are asked for: all words after the two names.
 fn years_asked() -> usize
-    ensures { λ r. ⌜ r ≤ mostYears ⌝ }
+    ensures { λ r. ⌜ r ≤ mostAsked ⌝ }
 {
     let count = os::arg_count();
     if count < 3 {
         return 0;
     }
     let years = count - 3;
-    if MOST_YEARS < years {
-        return MOST_YEARS;
+    if MOST_ASKED < years {
+        return MOST_ASKED;
     }
     years
 }

@@ -33,11 +33,6 @@ unfolding orElse
 or-same none x y h = h refl
 or-same (some a) x y h = refl
 
-pub or-three : (x y z : Option Answer) → orElse x (orElse y z) ≡ orElse (orElse x y) z
-unfolding orElse
-or-three none y z = refl
-or-three (some a) y z = refl
-
 pub unless-none : (t : Bool) (v : Verdict) → unless t v ≡ none → t ≡ true
 unfolding unless
 unless-none true v e = refl

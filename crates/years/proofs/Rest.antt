@@ -51,14 +51,14 @@ after-size b r bd = board-length b ((runOf b r bd) .carried) (dueAfter b (runOf 
 -- ---- month after month
 
 -- the parts of the months from first on lie one after another in the list
-pub part-within : (first k told long : ℕ) → first ≤ k → k < 12 → (12 - first) * told ≤ long → (k - first) * told + told ≤ long
+part-within : (first k told long : ℕ) → first ≤ k → k < 12 → (12 - first) * told ≤ long → (k - first) * told + told ≤ long
 part-within first k told long l h room =
     let m : suc (k - first) * told ≤ (12 - first) * told = mul-le-mul {n₁ = suc (k - first)} {m₁ = told} {n₂ = 12 - first} {m₂ = told} (omega arith) (omega arith) in
     omega (arith, suc-mul (k - first) told, m, room)
 
 -- a part of the list is lent and given back: what is before it, what came back, and what is beyond it
 module _ (at told w : ℕ) (old part : List ℕ) (ew : w ≡ told) (fit : at + told ≤ length old) (whole : length part ≡ length (take w (drop at old))) where
-  abbrev pub back : List ℕ
+  abbrev back : List ℕ
   back = take at old ++ (part ++ drop w (drop at old))
 
   before-long : length (take at old) ≡ at
@@ -67,7 +67,7 @@ module _ (at told w : ℕ) (old part : List ℕ) (ew : w ≡ told) (fit : at + t
   part-long : length part ≡ told
   part-long = whole ∙ length-take-le w (drop at old) (omega (arith, ew, fit, length-drop at old)) ∙ ew
 
-  pub back-long : length back ≡ length old
+  back-long : length back ≡ length old
   back-long = omega (arith, length-append (take at old) (part ++ drop w (drop at old)), length-append part (drop w (drop at old)), before-long, part-long, length-drop w (drop at old), length-drop at old, ew, fit)
 
   both-long : length (take at old ++ part) ≡ at + told
@@ -76,10 +76,10 @@ module _ (at told w : ℕ) (old part : List ℕ) (ew : w ≡ told) (fit : at + t
   joined : back ≡ (take at old ++ part) ++ drop w (drop at old)
   joined = sym (append-assoc (take at old) part (drop w (drop at old)))
 
-  pub back-first : take (at + told) back ≡ take at old ++ part
+  back-first : take (at + told) back ≡ take at old ++ part
   back-first = ap (take (at + told)) joined ∙ take-at (take at old ++ part) (drop w (drop at old)) (at + told) both-long
 
-  pub back-rest : drop (at + told) back ≡ drop told (drop at old)
+  back-rest : drop (at + told) back ≡ drop told (drop at old)
   back-rest = ap (drop (at + told)) joined ∙ drop-at (take at old ++ part) (drop w (drop at old)) (at + told) both-long ∙ ap (λ (x : ℕ). drop x (drop at old)) ew
 
 -- How a run stands before month k: what the months to come leave, from the board and the list as they are, is what all its months leave from those it was lent.

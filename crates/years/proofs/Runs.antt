@@ -102,7 +102,7 @@ pub run-fits-bodies : (st rs ps ri board reports : List ℕ)
 unfolding bodies runFits roomForYear
 run-fits-bodies st rs ps ri board reports = rw (reservoirs-are rs, rows-are st, rights-are ri)
 
-pub told-bodies : (st rs ps ri : List ℕ) → reportEnd (rightCount ri) (rowsOf st) (reservoirCount rs) ≡ reportLength (bodies st rs ps ri)
+told-bodies : (st rs ps ri : List ℕ) → reportEnd (rightCount ri) (rowsOf st) (reservoirCount rs) ≡ reportLength (bodies st rs ps ri)
 unfolding bodies
 told-bodies st rs ps ri = rw (reservoirs-are rs, rows-are st, rights-are ri)
 
