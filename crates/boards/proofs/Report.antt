@@ -10,11 +10,11 @@ use lib.IntN.{ℤ, pos, negsuc, natAbs}
 use lib.Signed.{_≤ℤ_}
 use Rattle.general.specs.Tables.{tab}
 use Rattle.general.proofs.Tables.{tab-length, tab-at}
-use Rattle.places.specs.Report.{fromRiverPlace, fromStoragePlace, reasonPlace, stationPlace, flowPlace, availablePlace, evaporationPlace, Parts, partAt}
-use Rattle.places.proofs.ReportPlaces.{by-places, line-part, row-part, evaporation-part}
+use Rattle.places.specs.Report.{fromRiverPlace, fromStoragePlace, reasonPlace, stationPlace, flowPlace, availablePlace, evaporationPlace, deepPlace, Parts, partAt}
+use Rattle.places.proofs.ReportPlaces.{by-places, line-part, row-part, evaporation-part, deep-part}
 use Rattle.rules.specs.Basin.{Basin, rows}
 use Rattle.rules.specs.River.{levelAt}
-use Rattle.rules.specs.Month.{grantAt, MonthRun, reasonNumber}
+use Rattle.rules.specs.Month.{grantAt, deepOf, MonthRun, reasonNumber}
 use Rattle.rules.specs.Tally.{reportLength}
 use Rattle.boards.specs.Report.{grantNumber, levelNumber, reportParts, reportOf}
 
@@ -27,11 +27,14 @@ module _ (b : Basin) (h : MonthRun) (old : List ℕ) where
   abbrev n : ℕ
   n = length (b .rights)
 
+  abbrev v : ℕ
+  v = length (b .reservoirs)
+
   abbrev parts : Parts
-  parts = reportParts h
+  parts = reportParts b h
 
   abbrev told : ℕ → ℕ
-  told = partAt n (rows b) parts
+  told = partAt n (rows b) v parts
 
   abbrev made : List ℕ
   made = reportOf b h old
@@ -43,11 +46,11 @@ module _ (b : Basin) (h : MonthRun) (old : List ℕ) where
   -- the q-th number of right i, and of row w
   grant-at : (i q : ℕ) → i < n → q < 4 → getD made (fromRiverPlace i + q) 0 ≡ grantNumber (grantAt (h .turns) i) q
   unfolding reportParts
-  grant-at i q l m = at (fromRiverPlace i + q) (omega arith) ∙ line-part n (rows b) parts i q l m
+  grant-at i q l m = at (fromRiverPlace i + q) (omega arith) ∙ line-part n (rows b) v parts i q l m
 
   level-at : (w q : ℕ) → w < rows b → q < 2 → getD made (flowPlace n w + q) 0 ≡ levelNumber (levelAt ((h .closed) .levels) w) q
   unfolding reportParts
-  level-at w q l m = at (flowPlace n w + q) (omega arith) ∙ row-part n (rows b) parts w q l m
+  level-at w q l m = at (flowPlace n w + q) (omega arith) ∙ row-part n (rows b) v parts w q l m
 
   pub river-place : (i : ℕ) → i < n → getD made (fromRiverPlace i) 0 ≡ (grantAt (h .turns) i) .fromRiver
   unfolding grantNumber
@@ -73,9 +76,13 @@ module _ (b : Basin) (h : MonthRun) (old : List ℕ) where
   unfolding levelNumber
   available-place w l = level-at w 1 l (omega arith)
 
-  pub evaporation-place : (v : ℕ) → v < length (b .reservoirs) → getD made (evaporationPlace n (rows b) v) 0 ≡ getD (h .evaporation) v 0
+  pub evaporation-place : (u : ℕ) → u < v → getD made (evaporationPlace n (rows b) u) 0 ≡ getD (h .evaporation) u 0
   unfolding reportParts
-  evaporation-place v l = at (evaporationPlace n (rows b) v) (omega arith) ∙ evaporation-part n (rows b) parts v
+  evaporation-place u l = at (evaporationPlace n (rows b) u) (omega arith) ∙ evaporation-part n (rows b) v parts u l
+
+  pub deep-place : getD made (deepPlace n (rows b) v) 0 ≡ deepOf b (h .turns)
+  unfolding reportParts
+  deep-place = at (deepPlace n (rows b) v) (omega arith) ∙ deep-part n (rows b) v parts
 
   pub places-beyond : drop (reportLength b) made ≡ drop (reportLength b) old
   unfolding reportOf
@@ -91,7 +98,8 @@ module _ (b : Basin) (h : MonthRun) (old : List ℕ) where
     pub station : (i : ℕ) → i < n → getD l (stationPlace i) 0 ≡ (grantAt (h .turns) i) .station
     pub flow : (w : ℕ) → w < rows b → getD l (flowPlace n w) 0 ≡ natAbs ((levelAt ((h .closed) .levels) w) .flow)
     pub available : (w : ℕ) → w < rows b → getD l (availablePlace n w) 0 ≡ natAbs ((levelAt ((h .closed) .levels) w) .available)
-    pub losses : (v : ℕ) → v < length (b .reservoirs) → getD l (evaporationPlace n (rows b) v) 0 ≡ getD (h .evaporation) v 0
+    pub losses : (u : ℕ) → u < v → getD l (evaporationPlace n (rows b) u) 0 ≡ getD (h .evaporation) u 0
+    pub deep : getD l (deepPlace n (rows b) v) 0 ≡ deepOf b (h .turns)
     pub beyond : (p : ℕ) → reportLength b ≤ p → getD l p 0 ≡ getD old p 0
 
   module _ (room : reportLength b ≤ length old) where
@@ -107,14 +115,15 @@ module _ (b : Basin) (h : MonthRun) (old : List ℕ) where
 
     module _ (l : List ℕ) (t : SameParts l) where
       same-told : (p : ℕ) → p < reportLength b → getD l p 0 ≡ getD made p 0
-      same-told p o = by-places n (rows b) (length (b .reservoirs)) (λ p. getD l p 0 ≡ getD made p 0)
+      same-told p o = by-places n (rows b) v (λ p. getD l p 0 ≡ getD made p 0)
           (λ i m. t .river i m ∙ sym (river-place i m))
           (λ i m. t .storage i m ∙ sym (storage-place i m))
           (λ i m. t .reason i m ∙ sym (reason-place i m))
           (λ i m. t .station i m ∙ sym (station-place i m))
           (λ w m. t .flow w m ∙ sym (flow-place w m))
           (λ w m. t .available w m ∙ sym (available-place w m))
-          (λ v m. t .losses v m ∙ sym (evaporation-place v m))
+          (λ u m. t .losses u m ∙ sym (evaporation-place u m))
+          (t .deep ∙ sym deep-place)
           p o
 
       same-at : (p : ℕ) → getD l p 0 ≡ getD made p 0

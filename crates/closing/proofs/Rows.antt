@@ -9,7 +9,7 @@ use lib.ListN.{length, getD, set, length-set}
 use lib.Seq.{getD-set-same, getD-set-other}
 use Rattle.general.proofs.Tests.{by-eqb}
 use Rattle.places.specs.Board.{monthPlace, monthAt}
-use Rattle.places.specs.Report.{flowPlace, availablePlace, rowsEnd}
+use Rattle.places.specs.Report.{flowPlace, availablePlace, rowsEnd, deepPlace}
 use Rattle.rules.specs.Month.{nextMonth}
 use Rattle.records.specs.Records.{reservoirCount}
 use Rattle.closing.specs.Losses.{Lost}
@@ -70,12 +70,14 @@ module _ (n h : ℕ) (f a rp : List ℕ) (c : CanTell n h rp) where
 
 -- ---- the end of a month, by what its steps promise
 
-pub ended-of : (rs : List ℕ) (n h : ℕ) (f a bd rp told lowered rp′ : List ℕ) (m x : ℕ) {at : ℕ} → RowsTold n h f a rp told → m ≡ monthAt bd → at ≡ rowsEnd n h
-    → Lost rs m (reservoirCount rs) bd told at lowered rp′ → x ≡ nextMonth (monthAt bd) → Ended rs n h f a bd rp (set lowered monthPlace x) rp′
-ended-of rs n h f a bd rp told lowered rp′ m x r e q l g = record {
+pub ended-of : (rs : List ℕ) (n h : ℕ) (f a : List ℕ) (deep : ℕ) (bd rp told lowered lost : List ℕ) (m x : ℕ) {at last : ℕ} → RowsTold n h f a rp told → m ≡ monthAt bd → at ≡ rowsEnd n h
+    → Lost rs m (reservoirCount rs) bd told at lowered lost → last ≡ deepPlace n h (reservoirCount rs) → x ≡ nextMonth (monthAt bd) → Ended rs n h f a deep bd rp (set lowered monthPlace x) (set lost last deep)
+ended-of rs n h f a deep bd rp told lowered lost m x r e q l d g = record {
   told = told;
   rows-told = r;
   lowered = lowered;
-  lost = subst (λ (y : ℕ). Lost rs y (reservoirCount rs) bd told (rowsEnd n h) lowered rp′) e (subst (λ (y : ℕ). Lost rs m (reservoirCount rs) bd told y lowered rp′) q l);
+  losses-told = lost;
+  lost = subst (λ (y : ℕ). Lost rs y (reservoirCount rs) bd told (rowsEnd n h) lowered lost) e (subst (λ (y : ℕ). Lost rs m (reservoirCount rs) bd told y lowered lost) q l);
+  deep-told = ap (λ (p : ℕ). set lost p deep) d;
   gone-on = ap (set lowered monthPlace) g;
 }

@@ -1,4 +1,4 @@
-// Steps 4 and 5 of a month: the rows as the last right left them, the evaporation, the next month.
+// Steps 4 and 5 of a month: the rows as the last right left them, the evaporation, what went deep, the next month.
 ghost use mathlib.Core.Path.{_≡_};
 ghost use Prim.Native.Nat.{_<_};
 ghost use Rattle.rules.specs.Month.{nextMonth};
@@ -6,6 +6,7 @@ ghost use Rattle.closing.specs.Closing.{CanTell, RowsTold, CanEnd, Ended
 use crate::losses::evaporate;
 use places::board::MONTH;
 use places::report::AVAILABLE;
+use places::report::deep_place;
 use places::report::flow_place;
 use places::report::rows_end;
 
@@ -42,21 +43,23 @@ pub fn in_year(m: u64) -> usize
     m as usize
 }
 
-// The end of a month in a basin of n rights.
+// The end of a month in a basin of n rights, of whose returns so much went deep.
 pub fn end(
     reservoirs: &[u8],
     n: usize,
     rows: usize,
     flow: &[u64; 64],
     available: &[u64; 64],
+    deep: u64,
     board: &mut [u64],
     report: &mut [u64],
 )
     requires { ⌜ CanEnd (now reservoirs) n rows (now board) (now report) ⌝ }
-    ensures { λ _. ⌜ Ended (now (reservoirs .entry)) n rows (now (flow .entry)) (now (available .entry)) (now (board .entry)) (now (report .entry)) (now (board .exit)) (now (report .exit)) ⌝ }
+    ensures { λ _. ⌜ Ended (now (reservoirs .entry)) n rows (now (flow .entry)) (now (available .entry)) deep (now (board .entry)) (now (report .entry)) (now (board .exit)) (now (report .exit)) ⌝ }
 {
     let m = board[MONTH];
     put_rows(n, rows, flow, available, report);
     evaporate(reservoirs, in_year(m), board, report, rows_end(n, rows));
+    report[deep_place(n, rows, reservoirs.len() / 68)] = deep;
     board[MONTH] = next_month(m);
 }

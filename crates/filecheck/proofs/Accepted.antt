@@ -8,7 +8,7 @@ use native.Mathlib.Omega.{arith}
 use lib.Dec.{eqb}
 use lib.ListN.{length, getD}
 use Rattle.general.specs.Sums.{sum, sumTo}
-use Rattle.general.specs.Tables.{tab, Rising}
+use Rattle.general.specs.Tables.{tab, All, Rising}
 use Rattle.general.specs.Tests.{_and_, has, isSome}
 use Rattle.general.proofs.Tests.{by-eqb, eqb-other, both-of, between-of, eq-of, le-of, lt-of}
 use Rattle.general.proofs.Search.{no-fault, some-of, all-at}
@@ -16,7 +16,7 @@ use Rattle.general.proofs.Tables.{tab-length, sum-tab}
 use Rattle.general.proofs.Entries.{all-tab, tab-most, tab-none, map-tab}
 use Rattle.rules.specs.Basin.{Survey, Reservoir, Point, Right, Basin, noReservoir, reservoirAt}
 use Rattle.rules.specs.Path.{rowBelow, path}
-use Rattle.rules.specs.Accepted.{Connected, GoodReservoir, ReservoirOk, Unreturned, Returned, ReturnsOk, GoodRight, Accepted as Acceptable}
+use Rattle.rules.specs.Accepted.{Connected, GoodReservoir, GoodPattern, ReservoirOk, Unreturned, Returned, ReturnsOk, GoodRight, Accepted as Acceptable}
 use Rattle.rules.specs.Theorems.{AreaFacts}
 use Rattle.rules.proofs.Theorems.{areas}
 use Rattle.rules.specs.declared.Verdict.the-variants.{Accepted, Layout}
@@ -118,13 +118,13 @@ module _ (st rs ps s : List ℕ) (k : Clear st rs ps s) where
   unfolding reservoirOf
   reservoir-row v h = ap (λ (x : Reservoir). x .row) (reservoir-is rs v h)
 
-  pattern-whole : (p : ℕ) → p < patternCount ps → sum (getD (patternsOf ps) p []) ≡ 100
-  unfolding patternOk
-  pattern-whole p h = ap sum (pattern-is ps p h) ∙ eq-of (k .patterns p h)
+  good-pattern : (p : ℕ) → p < patternCount ps → GoodPattern (patternOf ps p)
+  unfolding patternOk patternOf
+  good-pattern p h = record { twelve = tab-length (percentAt ps p) 12; sum-most = le-of (k .patterns p h) }
 
-  pattern-twelve : (p : ℕ) → p < patternCount ps → length (getD (patternsOf ps) p []) ≡ 12
-  unfolding patternOf
-  pattern-twelve p h = ap length (pattern-is ps p h) ∙ tab-length (percentAt ps p) 12
+  good-patterns : All GoodPattern (patternsOf ps)
+  unfolding patternsOf
+  good-patterns = all-tab GoodPattern (patternCount ps) (patternOf ps) good-pattern
 
   -- ---- one right
 
@@ -166,8 +166,6 @@ module _ (st rs ps s : List ℕ) (k : Clear st rs ps s) where
         efficiency-most = parts .0;
         whole = ap sum (map-tab (λ (q : Point). q .percent) (r .points) _) ∙ sum-tab (r .points) (returnPercent s i) ∙ parts .3;
         pattern-in = rw (patterns-are ps) (parts .1);
-        pattern-whole = pattern-whole (r .pattern) (parts .1);
-        pattern-length = pattern-twelve (r .pattern) (parts .1);
         rows-in = all-tab (λ (q : Point). q .row < length (stationsOf st)) (r .points) _ (λ n l. rw (rows-are st) (point-in n l));
         few-points = let l : length (right .points) ≡ r .points = tab-length _ (r .points) in omega arith;
       }
@@ -245,6 +243,7 @@ module _ (st rs ps s : List ℕ) (k : Clear st rs ps s) where
       few-rights = rw (rights-are s) few-s;
       connected = connected (few .0);
       reservoirs-good = all-tab (GoodReservoir basin) (reservoirCount rs) (reservoirOf rs) (λ v h. good-reservoir v (k .reservoirs v h));
+      patterns-good = good-patterns;
       rights-good = all-tab (GoodRight basin) (rightCount s) (rightOf s) (λ i h. good-right i (k .rights i h));
     }
 

@@ -59,6 +59,11 @@ pub record OctoberChecked : Type 0 where
   pub last-order : checkOf (set octoberFile 52 2) ≡ Station 1
   -- a zero byte of the reservoir set
   pub zero-byte : checkOf (set octoberFile 57 1) ≡ Reservoir 0
+  -- percents that sum to 80, and to 0
+  pub seeping : checkOf (set octoberFile 126 0) ≡ Accepted
+  pub all-deep : checkOf (set (set (set octoberFile 124 0) 125 0) 126 0) ≡ Accepted
+  -- percents that sum to 101
+  pub one-over : checkOf (set octoberFile 127 1) ≡ Pattern 0
   -- percents that sum to 356, which is 100 in eight bits
   pub over-full : checkOf (set (set octoberFile 127 255) 128 1) ≡ Pattern 0
   -- a right without points at efficiency 99

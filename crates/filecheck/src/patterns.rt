@@ -10,7 +10,7 @@ pub fn check_patterns(patterns: &[u8]) -> Verdict
 {
     let n = patterns.len() / 12;
     for p in 0..n {
-        if percent_sum(patterns, p) != 100 {
+        if percent_sum(patterns, p) > 100 {
             return Verdict::Pattern(p);
         }
     }

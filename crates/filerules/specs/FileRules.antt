@@ -73,9 +73,9 @@ reservoirOk st s v =
 
 -- ---- patterns
 
--- Over its twelve months a pattern gives back the whole.
+-- Over its twelve months a pattern gives back the whole or less; the rest goes deep (02, No. 5).
 unfoldable pub patternOk : List ℕ → ℕ → Bool
-patternOk s p = eqb (sum (patternOf s p)) 100
+patternOk s p = leb (sum (patternOf s p)) 100
 
 -- ---- rights
 

@@ -2,6 +2,7 @@
 use mathlib.Core.Bool.{Bool, true, false}
 use mathlib.Core.List.{List, [], _∷_}
 use Prim.Native.Nat.{ℕ, zero, suc, _+_}
+use lib.ListN.{getD}
 use lib.IntN.{ℤ, pos, _+ℤ_}
 
 -- f x, summed over the list
@@ -20,6 +21,10 @@ sum l = sumOver (λ x. x) l
 unfoldable pub sumTo : ℕ → (ℕ → ℕ) → ℕ
 sumTo zero f = 0
 sumTo (suc n) f = sumTo n f + f n
+
+-- the first k numbers of a list, summed
+abbrev pub upTo : List ℕ → ℕ → ℕ
+upTo l k = sumTo k (λ i. getD l i 0)
 
 unfoldable pub sumToℤ : ℕ → (ℕ → ℤ) → ℤ
 sumToℤ zero f = pos 0

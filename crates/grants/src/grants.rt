@@ -18,10 +18,12 @@ pub enum Reason {
     StorageOut,
 }
 
+// What a right is granted and why no more, and what of it goes deep.
 pub struct Grant {
     pub from_river: u64,
     pub from_storage: u64,
     pub reason: Reason,
+    pub deep: u64,
 }
 
 // What the river gives of a demand, and the reason where that is short.

@@ -17,9 +17,9 @@ use Rattle.rules.specs.Accepted.{Accepted}
 use Rattle.rules.specs.Theorems.{Possible}
 use Rattle.rules.proofs.Months.{month-ok}
 use Rattle.boards.specs.Report.{reportOf}
-use Rattle.places.specs.Report.{fromRiverPlace, fromStoragePlace, reasonPlace, stationPlace, flowPlace, availablePlace, evaporationPlace}
+use Rattle.places.specs.Report.{fromRiverPlace, fromStoragePlace, reasonPlace, stationPlace, flowPlace, availablePlace, evaporationPlace, deepPlace}
 use Rattle.ledger.specs.Account.{Tells}
-use Rattle.boards.proofs.Report.{report-by-parts, made-size, own-number, river-place, storage-place, reason-place, station-place, flow-place, available-place, evaporation-place, places-beyond}
+use Rattle.boards.proofs.Report.{report-by-parts, made-size, own-number, river-place, storage-place, reason-place, station-place, flow-place, available-place, evaporation-place, deep-place, places-beyond}
 use Rattle.rules.proofs.Sums.{accepted-fits}
 
 -- ---- nothing is left untold
@@ -37,6 +37,7 @@ all-told b h before after t n = report-by-parts b h before n after (record {
   flow = λ w l. number-of _ _ (t .flow w l);
   available = λ w l. number-of _ _ (t .available w l);
   losses = t .evaporation;
+  deep = t .deep;
   beyond = λ p o.
       let k : ℕ = p - reportLength b in
       let e : p ≡ reportLength b + k = omega (arith, o) in
@@ -68,6 +69,7 @@ module _ (b : Basin) (acc : Accepted b) (t : Tally) (p : Possible b (standing b 
         flow = λ w l. ap pos (read (flowPlace (length (b .rights)) w) ∙ flow-place b r before w l) ∙ own-number _ (le-transℤ (closed-sound w .not-negative) (closed-sound w .within-flow));
         available = λ w l. ap pos (read (availablePlace (length (b .rights)) w) ∙ available-place b r before w l) ∙ own-number _ (closed-sound w .not-negative);
         evaporation = λ v l. read (evaporationPlace (length (b .rights)) (rows b) v) ∙ evaporation-place b r before v l;
+        deep = read (deepPlace (length (b .rights)) (rows b) (length (b .reservoirs))) ∙ deep-place b r before;
         beyond = ap (drop (reportLength b)) e ∙ places-beyond b r before;
         size = ap (λ (x : List ℕ). length x) e ∙ made-size b r before (omega (arith, report-fits b c accepted));
       }

@@ -1,5 +1,5 @@
 -- A run of calls is accounted for: one claim about any list of month calls and year runs on one file, from any board that is possible for it. What the calls
--- answer and leave is what the tally says (01, "The tally of a list of months"; 02, No. 4). It cites only definitions; proofs/Theorems.antt proves it.
+-- answer and leave is what the tally says (01, "The tally of a list of months"; 02, Nos. 4 and 5). It cites only definitions; proofs/Theorems.antt proves it.
 use mathlib.Core.Path.{_≡_}
 use mathlib.Core.Bool.{true}
 use mathlib.Core.List.{List, [], _∷_, map}
@@ -9,7 +9,7 @@ use lib.ListN.{length, getD, take, drop}
 use lib.IntN.{pos}
 use Rattle.rules.specs.Basin.{Basin, rows}
 use Rattle.rules.specs.River.{flowAt, availableAt}
-use Rattle.rules.specs.Month.{MonthRun, reasonNumber, grantAt}
+use Rattle.rules.specs.Month.{MonthRun, reasonNumber, grantAt, deepOf}
 use Rattle.rules.specs.Tally.{Call, reportLength, refusal, Start, freshStart, Tally, begun, pending, nextRun, afterCall}
 use Rattle.rules.specs.Years.{YearRun, callsIn, runRefusal, Entry, monthly, yearly, afterEntry, afterEntries, entryAnswer}
 use Rattle.rules.specs.Answers.{Answer}
@@ -20,7 +20,7 @@ use Rattle.filecheck.specs.Check.{checkOf}
 use Rattle.places.specs.Board.{boardLength, dueAt}
 use Rattle.boards.specs.Board.{carriedOf, boardOf, possible}
 use Rattle.boards.specs.Report.{reportOf}
-use Rattle.places.specs.Report.{fromRiverPlace, fromStoragePlace, reasonPlace, stationPlace, flowPlace, availablePlace, evaporationPlace}
+use Rattle.places.specs.Report.{fromRiverPlace, fromStoragePlace, reasonPlace, stationPlace, flowPlace, availablePlace, evaporationPlace, deepPlace}
 use Rattle.fresh.specs.Fresh.{freshOf}
 use Rattle.month.specs.Month.{callWith, runOf, Outcome, MonthMeets}
 use Rattle.book.specs.Book.{lookupRefusal}
@@ -90,6 +90,8 @@ pub record Tells (b : Basin) (h : MonthRun) (before after : List ℕ) : Type 0 w
   pub available : (w : ℕ) → w < rows b → pos (getD after (availablePlace (length (b .rights)) w) 0) ≡ availableAt ((h .closed) .levels) w
   -- evaporation
   pub evaporation : (v : ℕ) → v < length (b .reservoirs) → getD after (evaporationPlace (length (b .rights)) (rows b) v) 0 ≡ getD (h .evaporation) v 0
+  -- what went deep, by the grants
+  pub deep : getD after (deepPlace (length (b .rights)) (rows b) (length (b .reservoirs))) 0 ≡ deepOf b (h .turns)
   -- the rest of the list is as it was
   pub beyond : drop (reportLength b) after ≡ drop (reportLength b) before
   pub size : length after ≡ length before

@@ -40,9 +40,10 @@ module _ (month : ℕ) (rights : List Right) (x y : List ℕ) where
 module _ (b : Basin) (h : MonthRun) (old : List ℕ) where
   place-same : (p : ℕ) → p < reportLength b → getD (reportOf b h old) p 0 ≡ getD (reportOf b h []) p 0
   unfolding reportOf
-  place-same p l = let k : p < length (tab (reportLength b) (partAt (length (b .rights)) (rows b) (reportParts h))) = rw (tab-length (partAt (length (b .rights)) (rows b) (reportParts h)) (reportLength b)) l in
-      List·getD-append (tab (reportLength b) (partAt (length (b .rights)) (rows b) (reportParts h))) (drop (reportLength b) old) 0 p k
-      ∙ sym (List·getD-append (tab (reportLength b) (partAt (length (b .rights)) (rows b) (reportParts h))) (drop (reportLength b) []) 0 p k)
+  place-same p l =
+      let at : ℕ → ℕ = partAt (length (b .rights)) (rows b) (length (b .reservoirs)) (reportParts b h) in
+      let k : p < length (tab (reportLength b) at) = rw (tab-length at (reportLength b)) l in
+      List·getD-append (tab (reportLength b) at) (drop (reportLength b) old) 0 p k ∙ sym (List·getD-append (tab (reportLength b) at) (drop (reportLength b) []) 0 p k)
 
   text-same : 0 < rows b → (month : ℕ) (board : List ℕ) → monthText b month (reportOf b h old) board ≡ monthText b month (reportOf b h []) board
   unfolding monthText outflowIn evaporationIn

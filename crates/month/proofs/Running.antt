@@ -7,15 +7,16 @@ use native.Mathlib.Decide.{decLt}
 use native.Mathlib.Omega.{arith}
 use lib.Dec.{ltb, eqb}
 use lib.ListN.{length, getD, set, replicate, length-replicate, List·getD-append, List·getD-eq-default}
+use Rattle.general.specs.Sums.{sum}
 use Rattle.general.specs.Tables.{tab}
-use Rattle.general.proofs.Lists.{getD-zeros}
-use Rattle.general.proofs.Tables.{tab-length}
+use Rattle.general.proofs.Lists.{all-at-place, getD-zeros}
+use Rattle.general.proofs.Tables.{tab-length, tab-at}
 use Rattle.general.proofs.Tests.{only-le, by-eqb}
-use Rattle.rules.specs.Accepted.{Accepted}
+use Rattle.rules.specs.Accepted.{GoodPattern, Accepted}
 use Rattle.rules.specs.Basin.{Basin, rows}
 use Rattle.rules.specs.Month.{opening, nextMonth}
 use Rattle.rules.specs.Theorems.{mostDue}
-use Rattle.records.specs.Records.{rowsOf, stationsOf, reservoirCount, rightCount, patternCount, patternOf, patternsOf, sixteenPatterns, bodies}
+use Rattle.records.specs.Records.{rowsOf, stationsOf, reservoirCount, rightCount, patternCount, patternOf, patternsOf, sumsOf, sixteenSums, bodies}
 use Rattle.records.specs.Table.{tableOf}
 use Rattle.turns.specs.declared.lines.Totals.{Totals}
 use Rattle.turns.specs.Lines.{CanServe, Served}
@@ -30,17 +31,20 @@ use Rattle.places.proofs.BoardPlaces.{by-places}
 use Rattle.boards.specs.Board.{carriedOf, possible}
 use Rattle.closing.specs.Closing.{CanEnd, Ended}
 use Rattle.month.specs.Run.{CanRun, Ran}
-use Rattle.records.proofs.Decoded.{bodies-rows, bodies-reservoirs, bodies-rights}
+use Rattle.records.proofs.Decoded.{patterns-are, pattern-is, bodies-rows, bodies-reservoirs, bodies-rights}
 use Rattle.boards.proofs.Bodies.{marks-small}
 use Rattle.month.proofs.Opened.{opened, opened-length, opened-month, opened-storage, opened-word, opened-taken, opened-due, state-opened}
 use Rattle.boards.proofs.Bounds.{month-most, storage-most, marks-most, taken-most, due-most, no-due, capacity-most, limit-most}
 use Rattle.month.proofs.Closing.{board-left}
 use Rattle.month.proofs.Reporting.{report-left, shorts-left}
 
--- the patterns of the file are the first of the sixteen
-sixteen : (ps : List ℕ) (k : ℕ) → k < length (patternsOf ps) → getD (patternsOf ps) k [] ≡ getD (sixteenPatterns ps) k []
-unfolding sixteenPatterns
-sixteen ps k h = sym (List·getD-append (patternsOf ps) _ [] k h)
+-- the sums of the file's patterns are the first of the sixteen
+sixteen : (ps : List ℕ) (k : ℕ) → k < length (patternsOf ps) → getD (sixteenSums ps) k [] ≡ sumsOf (getD (patternsOf ps) k [])
+unfolding sixteenSums
+sixteen ps k h =
+    let sums : ℕ → List ℕ = λ p. sumsOf (patternOf ps p) in
+    let l : k < patternCount ps = omega (arith, h, patterns-are ps) in
+    List·getD-append (tab (patternCount ps) sums) _ [] k (omega (arith, l, tab-length sums (patternCount ps))) ∙ tab-at sums (patternCount ps) k [] l ∙ ap sumsOf (sym (pattern-is ps k l))
 
 -- ---- what each place of a possible board holds at most
 
@@ -113,9 +117,12 @@ module _ (st rs ps ri runoff bd rp : List ℕ) (c : CanRun st rs ps ri runoff bd
   pub run-rows : rowsOf st ≤ 64
   run-rows = omega (arith, bodies-rows st rs ps ri, c .accepted .few-rows)
 
-  pub run-patterns : patternCount ps ≤ 16
-  unfolding bodies patternsOf
-  run-patterns = omega (arith, tab-length (patternOf ps) (patternCount ps), c .accepted .few-patterns)
+  pub run-patterns : (patternCount ps ≤ 16) × ((p : ℕ) → p < patternCount ps → sum (patternOf ps p) ≤ 100)
+  unfolding bodies
+  run-patterns = (
+    omega (arith, patterns-are ps, c .accepted .few-patterns),
+    λ p h. omega (arith, all-at-place GoodPattern (patternsOf ps) [] (c .accepted .patterns-good) p (omega (arith, h, patterns-are ps)) .sum-most, ap sum (pattern-is ps p h)),
+  )
 
   pub can-open : CanOpen (length runoff) bd
   can-open = record {
@@ -124,13 +131,13 @@ module _ (st rs ps ri runoff bd rp : List ℕ) (c : CanRun st rs ps ri runoff bd
     empty = λ p h. none-due (bodies st rs ps ri) (c .accepted) bd (c .can) (c .size) p (omega (arith, h, c .sheet));
   }
 
-module _ (st rs ps ri runoff bd rp : List ℕ) (c : CanRun st rs ps ri runoff bd rp) (t : List ℕ) (et : t ≡ tableOf (stationsOf st)) (pa : List (List ℕ)) (epa : pa ≡ sixteenPatterns ps) where
+module _ (st rs ps ri runoff bd rp : List ℕ) (c : CanRun st rs ps ri runoff bd rp) (t : List ℕ) (et : t ≡ tableOf (stationsOf st)) (pa : List (List ℕ)) (epa : pa ≡ sixteenSums ps) where
   abbrev b : Basin
   b = bodies st rs ps ri
 
   pub setting : Setting b st t rs pa ri
   unfolding bodies
-  setting = record { accepted = c .accepted; stations = refl; table = et; reservoirs = refl; patterns = λ k h. sixteen ps k h ∙ ap (λ (x : List (List ℕ)). getD x k []) (sym epa); rights = refl }
+  setting = record { accepted = c .accepted; stations = refl; table = et; reservoirs = refl; patterns = λ k h. ap (λ (x : List (List ℕ)). getD x k []) epa ∙ sixteen ps k h; rights = refl }
 
   few-rows : rowsOf st ≤ 64
   few-rows = omega (arith, bodies-rows st rs ps ri, c .accepted .few-rows)
@@ -199,16 +206,17 @@ module _ (st rs ps ri runoff bd rp : List ℕ) (c : CanRun st rs ps ri runoff bd
       }
 
       -- the counts by the basin
-      ended : (bd₄ rp₃ : List ℕ) → Ended rs (rightCount ri) (rowsOf st) f₂ a₂ bd₂ rp₁ bd₄ rp₃ → Ended rs (length (b .rights)) (rows b) f₂ a₂ bd₂ rp₁ bd₄ rp₃
-      ended bd₄ rp₃ z = rw (bodies-rights st rs ps ri, bodies-rows st rs ps ri) z
+      ended : (bd₄ rp₄ : List ℕ) → Ended rs (rightCount ri) (rowsOf st) f₂ a₂ (k .deep) bd₂ rp₁ bd₄ rp₄ → Ended rs (length (b .rights)) (rows b) f₂ a₂ (k .deep) bd₂ rp₁ bd₄ rp₄
+      ended bd₄ rp₄ z = rw (bodies-rights st rs ps ri, bodies-rows st rs ps ri) z
 
-      pub ran : (bd₄ rp₃ : List ℕ) → Ended rs (rightCount ri) (rowsOf st) f₂ a₂ bd₂ rp₁ bd₄ rp₃ → Ran b runoff bd rp bd₄ rp₃ (k .shorts)
-      ran bd₄ rp₃ x =
-          let z = ended bd₄ rp₃ x in
+      pub ran : (bd₄ rp₄ : List ℕ) → Ended rs (rightCount ri) (rowsOf st) f₂ a₂ (k .deep) bd₂ rp₁ bd₄ rp₄ → Ran b runoff bd rp bd₄ rp₄ (k .shorts)
+      ran bd₄ rp₄ x =
+          let z = ended bd₄ rp₄ x in
           let at : ℕ = rowsEnd (length (b .rights)) (rows b) in
+          let rp₃ : List ℕ = z .losses-told in
           let l : Lost rs m (reservoirCount rs) bd₂ (z .told) at (z .lowered) rp₃ = subst (λ (y : ℕ). Lost rs y (reservoirCount rs) bd₂ (z .told) at (z .lowered) rp₃) month₂ (z .lost) in
           record {
             board = board-left b st t rs pa ri setting runoff bd (c .can) f a sh start m month-is rp f₂ a₂ sh₂ bd₂ rp₁ k q (z .told) at (z .lowered) rp₃ l bd₄ (z .gone-on ∙ ap (λ (y : ℕ). set (z .lowered) monthPlace (nextMonth y)) month₂);
-            report = report-left b st t rs pa ri setting runoff bd (c .can) f a sh start m month-is rp f₂ a₂ sh₂ bd₂ rp₁ k q (c .room) (z .told) (z .rows-told) (z .lowered) rp₃ l;
-            shorts = shorts-left b st t rs pa ri setting runoff bd (c .can) f a sh start m month-is rp f₂ a₂ sh₂ bd₂ rp₁ k q (c .room) (z .told) (z .rows-told) (z .lowered) rp₃ l;
+            report = report-left b st t rs pa ri setting runoff bd (c .can) f a sh start m month-is rp f₂ a₂ sh₂ bd₂ rp₁ k q (c .room) (z .told) (z .rows-told) (z .lowered) rp₃ l rp₄ (z .deep-told);
+            shorts = shorts-left b st t rs pa ri setting runoff bd (c .can) f a sh start m month-is rp f₂ a₂ sh₂ bd₂ rp₁ k q;
           }

@@ -52,6 +52,7 @@ pub fn run(
         rows,
         &flow,
         &available,
+        totals.deep,
         board,
         report,
     );

@@ -1,10 +1,10 @@
 // The places of a report.
 ghost use mathlib.Core.Path.{_≡_};
 ghost use Prim.Native.Nat.{_≤_};
-ghost use Rattle.places.specs.Report.{fromRiverPlace, flowPlace, rowsEnd, reportEnd};
+ghost use Rattle.places.specs.Report.{fromRiverPlace, flowPlace, rowsEnd, deepPlace, reportEnd};
 
 // The numbers of the longest report: that of a basin with as many of each as a file may have.
-pub const MOST_REPORT: usize = 1160;
+pub const MOST_REPORT: usize = 1161;
 
 // The numbers of a right's line, counted from its first.
 pub const FROM_STORAGE: usize = 1;
@@ -40,10 +40,18 @@ pub fn rows_end(n: usize, h: usize) -> usize
     flow_place(n, h)
 }
 
+// What went deep, in a basin of n rights, h rows and v reservoirs: the last number of a report.
+pub fn deep_place(n: usize, h: usize, v: usize) -> usize
+    requires { ⌜ (n ≤ 256) × (h ≤ 64) × (v ≤ 8) ⌝ }
+    ensures { λ p. ⌜ p ≡ deepPlace n h v ⌝ }
+{
+    rows_end(n, h) + v
+}
+
 // Where a report ends, in a basin of n rights, h rows and v reservoirs.
 pub fn report_end(n: usize, h: usize, v: usize) -> usize
     requires { ⌜ (n ≤ 256) × (h ≤ 64) × (v ≤ 8) ⌝ }
     ensures { λ p. ⌜ p ≡ reportEnd n h v ⌝ }
 {
-    rows_end(n, h) + v
+    deep_place(n, h, v) + 1
 }

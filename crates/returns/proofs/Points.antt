@@ -2,6 +2,7 @@
 use mathlib.Core.List.{List, [], _∷_, _++_}
 use mathlib.Core.Path.{_≡_, refl, sym, ap, _∙_, subst}
 use Prim.Native.Nat.{ℕ, zero, suc, _+_, _-_, _*_, _/_, _≤_, _<_}
+use native.Mathlib.Nat.{mul-le-mul}
 use native.Mathlib.Numerals.{add-one}
 use native.Mathlib.Omega.{arith}
 use native.Mathlib.Decide.{decLt}
@@ -14,16 +15,19 @@ use Rattle.general.proofs.Sums.{sum-append}
 use Rattle.general.proofs.Tests.{by-eqb, only-le}
 use Rattle.places.specs.Board.{duesOf, duePlace, dueAt, roomy}
 use Rattle.rules.specs.River.{Level, along, returned}
-use Rattle.rules.specs.Returns.{shares, Part, lagged, returnedAt}
+use Rattle.rules.specs.Returns.{shares, deepLoss, Part, lagged, returnedAt, lostDeep}
+use Rattle.rules.proofs.Splits.{deep-le}
 use Rattle.records.specs.Records.{returnRow, returnPercent}
 use Rattle.records.specs.Table.{pathBy}
 use Rattle.river.specs.Arrays.{levelsOf, CanReturn, Walked, RiverOk}
 use Rattle.river.proofs.Table.{by-in}
 use Rattle.river.proofs.Levels.{change-idle, returned-read, returned-zero}
 use Rattle.rules.specs.Accepted.{mostAmount}
-use Rattle.returns.specs.Dues.{Lagged}
-use Rattle.returns.specs.Returning.{pointsUpTo, partIn, partsIn, returnBy, Gave}
-use Rattle.returns.proofs.Shares.{lagged-le, share-le}
+use Rattle.returns.specs.declared.returning.Return.{Return}
+use Rattle.returns.specs.declared.split.SplitPart.{SplitPart}
+use Rattle.returns.specs.Dues.{SplitUp}
+use Rattle.returns.specs.Returning.{pointsUpTo, partIn, partsIn, returnBy, CanGive, Gave}
+use Rattle.returns.proofs.Shares.{lagged-le, share-le, split-nothing}
 
 -- ---- lists of parts, one more
 
@@ -40,6 +44,10 @@ returned-more : (pattern : List ℕ) (w s : ℕ) (qs : List Part) (q : Part) →
 unfolding returnedAt
 returned-more pattern w s qs q = sum-append (λ (x : Part). only (eqb (x .row) w) (lagged pattern s x)) qs q
 
+lost-more : (pattern : List ℕ) (qs : List Part) (q : Part) → lostDeep pattern (qs ++ (q ∷ [])) ≡ lostDeep pattern qs + deepLoss (q .amount) pattern
+unfolding lostDeep
+lost-more pattern qs q = sum-append (λ (x : Part). deepLoss (x .amount) pattern) qs q
+
 -- ---- sums of percents
 
 pub points-none : (ri : List ℕ) (i : ℕ) → 0 ≡ pointsUpTo ri i 0
@@ -50,10 +58,19 @@ pub points-more : (ri : List ℕ) (i k : ℕ) → pointsUpTo ri i (k + 1) ≡ po
 unfolding sumTo
 points-more ri i k = rw (add-one k)
 
-pub points-le : (ri : List ℕ) (i k n : ℕ) → k ≤ n → pointsUpTo ri i k ≤ pointsUpTo ri i n
+points-le : (ri : List ℕ) (i k n : ℕ) → k ≤ n → pointsUpTo ri i k ≤ pointsUpTo ri i n
 unfolding sumTo
 points-le ri i k zero h = let e : k ≡ 0 = omega arith in rw e (omega arith)
 points-le ri i k (suc n) h = by-eqb k (suc n) (λ _. pointsUpTo ri i k ≤ pointsUpTo ri i (suc n)) (λ e. rw e (omega arith)) (λ e. omega (arith, points-le ri i k n (omega arith)))
+
+-- the sum with the percent of one more point, and what of the rest it takes
+module _ {t : List ℕ} {pa : List (List ℕ)} {ri : List ℕ} {back : Return} {f a bd : List ℕ} (o : CanGive t pa ri back f a bd)
+    (k c p : ℕ) (on : k < back .points) (ec : c ≡ pointsUpTo ri (back .right) k) (ep : p ≡ returnPercent ri (back .right) k) where
+  pub percents-in : c + p ≤ 100
+  percents-in = omega (arith, ec, ep, o .points-ok .percents, points-more ri (back .right) k, points-le ri (back .right) (k + 1) (back .points) (omega arith))
+
+  pub next-small : back .amount * (c + p) ≤ mostAmount * 100
+  next-small = mul-le-mul (o .small) percents-in
 
 -- ---- the amount at a point
 
@@ -95,11 +112,12 @@ module _ (f a : List ℕ) (p : List ℕ) (d : ℕ) where
 -- ---- the loop
 
 module _ (t pattern ri : List ℕ) (i rest : ℕ) (f a bd : List ℕ) where
-  pub gave-none : ((w : ℕ) → w < 64 → getD a w 0 ≤ getD f w 0) → Gave t pattern ri i 0 rest f a bd f a bd
-  unfolding partsIn tab returnBy returnedAt sumOver
+  pub gave-none : ((w : ℕ) → w < 64 → getD a w 0 ≤ getD f w 0) → Gave t pattern ri i 0 rest f a bd f a bd 0
+  unfolding partsIn tab returnBy returnedAt lostDeep sumOver
   gave-none h = record {
     levels = λ h. refl;
     dues = λ w k l. omega arith;
+    lost = refl;
     same = λ j l. refl;
     size = refl;
     flow-size = refl;
@@ -107,10 +125,11 @@ module _ (t pattern ri : List ℕ) (i rest : ℕ) (f a bd : List ℕ) where
     grown = λ w l. omega arith;
     within = h;
     filled = λ j. omega arith;
+    lost-most = omega arith;
   }
 
   -- the river and the board as the points so far have left them
-  module _ (k : ℕ) (f₁ a₁ bd₁ : List ℕ) (w : Gave t pattern ri i k rest f a bd f₁ a₁ bd₁) (few : k ≤ 4) where
+  module _ (k : ℕ) (f₁ a₁ bd₁ : List ℕ) (deep : ℕ) (w : Gave t pattern ri i k rest f a bd f₁ a₁ bd₁ deep) (few : k ≤ 4) where
     pub river-after : RiverOk t f a roomy → RiverOk t f₁ a₁ (roomy + roomy)
     river-after o = record {
       downhill = o .downhill;
@@ -120,31 +139,33 @@ module _ (t pattern ri : List ℕ) (i rest : ℕ) (f a bd : List ℕ) where
       within = w .within;
     }
 
-    module _ (q : Part) (at-once d : ℕ) (f₂ a₂ bd₂ : List ℕ) (part : q ≡ partIn ri i rest k) (whole : sum pattern ≡ 100) (row-in : q .row < 64) (small : q .amount ≤ mostAmount)
-        (now-is : at-once ≡ getD (shares (q .amount) pattern) 0 0) (split : Lagged pattern (q .amount) (duesOf (q .row)) 11 bd₁ bd₂)
-        (back : Walked (returned at-once) (pathBy t (q .row)) f₁ a₁ f₂ a₂) where
-      once-le : at-once ≤ mostAmount
-      once-le = omega (arith, now-is, share-le (q .amount) pattern 0 whole, small)
+    module _ (q : Part) (x : SplitPart) (f₂ a₂ bd₂ : List ℕ) (part : q ≡ partIn ri i rest k) (most : sum pattern ≤ 100) (row-in : q .row < 64) (small : q .amount ≤ mostAmount)
+        (split : SplitUp pattern (q .amount) (duesOf (q .row)) bd₁ bd₂ x) (back : Walked (returned (x .«at_once»)) (pathBy t (q .row)) f₁ a₁ f₂ a₂) where
+      once-le : x .«at_once» ≤ mostAmount
+      once-le = omega (arith, split .at-once, share-le (q .amount) pattern 0 most, small)
+
+      parts-are : partsIn ri i rest k ++ (q ∷ []) ≡ partsIn ri i rest (k + 1)
+      parts-are = ap (λ (y : Part). partsIn ri i rest k ++ (y ∷ [])) part ∙ sym (parts-more ri i rest k)
 
       levels-more : (h : ℕ) → levelsOf h f₂ a₂ ≡ returnBy t pattern (partsIn ri i rest (k + 1)) (levelsOf h f a)
       levels-more h =
           back .levels h
-          ∙ ap (λ (x : ℕ). along (returned x) (pathBy t (q .row)) (levelsOf h f₁ a₁)) (now-is ∙ lagged-is pattern 0 q)
+          ∙ ap (λ (y : ℕ). along (returned y) (pathBy t (q .row)) (levelsOf h f₁ a₁)) (split .at-once ∙ lagged-is pattern 0 q)
           ∙ ap (λ (l : List Level). along (returned (lagged pattern 0 q)) (pathBy t (q .row)) l) (w .levels h)
           ∙ sym (return-more t pattern (partsIn ri i rest k) q (levelsOf h f a))
-          ∙ ap (λ (qs : List Part). returnBy t pattern qs (levelsOf h f a)) (ap (λ (x : Part). partsIn ri i rest k ++ (x ∷ [])) part ∙ sym (parts-more ri i rest k))
+          ∙ ap (λ (qs : List Part). returnBy t pattern qs (levelsOf h f a)) parts-are
 
       -- the dues of the point's row grow, the others stay
       due-grown : (v s : ℕ) → s < 11 → dueAt bd₂ v (suc s) ≡ dueAt bd₁ v (suc s) + only (eqb (q .row) v) (lagged pattern (suc s) q)
       due-grown v s l = by-eqb (q .row) v (λ b. dueAt bd₂ v (suc s) ≡ dueAt bd₁ v (suc s) + only b (lagged pattern (suc s) q))
-          (λ e. rw (← e) (split .each s l ∙ ap (λ (x : ℕ). getD bd₁ (duePlace (q .row) s) 0 + x) (lagged-is pattern (suc s) q)))
+          (λ e. rw (← e) (split .later .each s l ∙ ap (λ (y : ℕ). getD bd₁ (duePlace (q .row) s) 0 + y) (lagged-is pattern (suc s) q)))
           (λ e. aside e (decLt v (q .row)))
         where
           aside : (q .row ≡ v → ⊥) → Dec (v < q .row) → dueAt bd₂ v (suc s) ≡ dueAt bd₁ v (suc s) + 0
-          aside e (yes h) = omega (arith, split .under (duePlace v s) (omega arith))
-          aside e (no h) = omega (arith, split .over (duePlace v s) (omega arith))
+          aside e (yes h) = omega (arith, split .later .under (duePlace v s) (omega arith))
+          aside e (no h) = omega (arith, split .later .over (duePlace v s) (omega arith))
 
-      pub gave-more : Gave t pattern ri i (k + 1) rest f a bd f₂ a₂ bd₂
+      pub gave-more : Gave t pattern ri i (k + 1) rest f a bd f₂ a₂ bd₂ (deep + x .deep)
       gave-more = record {
         levels = levels-more;
         dues = λ v s l. omega (
@@ -152,33 +173,39 @@ module _ (t pattern ri : List ℕ) (i rest : ℕ) (f a bd : List ℕ) where
           due-grown v s l,
           w .dues v s l,
           returned-more pattern v (suc s) (partsIn ri i rest k) q,
-          ap (λ (qs : List Part). returnedAt pattern v (suc s) qs) (ap (λ (x : Part). partsIn ri i rest k ++ (x ∷ [])) part ∙ sym (parts-more ri i rest k)),
+          ap (λ (qs : List Part). returnedAt pattern v (suc s) qs) parts-are,
         );
-        same = λ j l. split .under j (omega arith) ∙ w .same j l;
-        size = split .size ∙ w .size;
+        lost = omega (
+          arith,
+          split .deep,
+          w .lost,
+          lost-more pattern (partsIn ri i rest k) q,
+          ap (λ (qs : List Part). lostDeep pattern qs) parts-are,
+        );
+        same = λ j l. split .later .under j (omega arith) ∙ w .same j l;
+        size = split .later .size ∙ w .size;
         flow-size = back .flow-size ∙ w .flow-size;
         available-size = back .available-size ∙ w .available-size;
-        grown = λ x l. omega (arith, put-grown f₁ a₁ (pathBy t (q .row)) at-once f₂ a₂ back x l, w .grown x l, once-le);
-        within = λ x l. put-within f₁ a₁ (pathBy t (q .row)) at-once f₂ a₂ back x l (w .within x l);
-        filled = λ j. omega (arith, lagged-le pattern (q .amount) (duesOf (q .row)) bd₁ 11 bd₂ whole split j, w .filled j, small);
+        grown = λ v l. omega (arith, put-grown f₁ a₁ (pathBy t (q .row)) (x .«at_once») f₂ a₂ back v l, w .grown v l, once-le);
+        within = λ v l. put-within f₁ a₁ (pathBy t (q .row)) (x .«at_once») f₂ a₂ back v l (w .within v l);
+        filled = λ j. omega (arith, lagged-le pattern (q .amount) (duesOf (q .row)) bd₁ 11 bd₂ most (split .later) j, w .filled j, small);
+        lost-most = omega (arith, split .deep, deep-le (q .amount) pattern, w .lost-most, small);
       }
 
 -- ---- where nothing returns
 
-lag-nothing : (pattern : List ℕ) (d at : ℕ) (l : List ℕ) → d ≡ 0 → sum pattern ≡ 100 → Lagged pattern d at 11 l l
-lag-nothing pattern d at l e whole = record { size = refl; each = λ j h. omega (arith, share-le d pattern (suc j) whole); under = λ j h. refl; over = λ j h. refl }
-
-module _ (t pattern ri : List ℕ) (i rest : ℕ) (f a bd : List ℕ) (e : rest ≡ 0) (whole : sum pattern ≡ 100) (within : (w : ℕ) → w < 64 → getD a w 0 ≤ getD f w 0) where
+module _ (t pattern ri : List ℕ) (i rest : ℕ) (f a bd : List ℕ) (e : rest ≡ 0) (most : sum pattern ≤ 100) (within : (w : ℕ) → w < 64 → getD a w 0 ≤ getD f w 0) where
   nothing-at : (k : ℕ) → (partIn ri i rest k) .amount ≡ 0
   unfolding partIn
   nothing-at k = rw e (omega arith)
 
-  pub gave-nothing : (n : ℕ) → n ≤ 4 → ((k : ℕ) → k < n → returnRow ri i k < 64) → Gave t pattern ri i n rest f a bd f a bd
+  pub gave-nothing : (n : ℕ) → n ≤ 4 → ((k : ℕ) → k < n → returnRow ri i k < 64) → Gave t pattern ri i n rest f a bd f a bd 0
   unfolding partIn
   gave-nothing zero few rows = gave-none t pattern ri i rest f a bd within
   gave-nothing (suc n) few rows =
       let q : Part = partIn ri i rest n in
       let z : q .amount ≡ 0 = nothing-at n in
-      subst (λ (k : ℕ). Gave t pattern ri i k rest f a bd f a bd) (add-one n)
-      (gave-more t pattern ri i rest f a bd n f a bd (gave-nothing n (omega arith) (λ k h. rows k (omega arith))) (omega arith) q 0 0 f a bd refl whole (rows n (omega arith)) (omega arith)
-      (omega (arith, share-le (q .amount) pattern 0 whole)) (lag-nothing pattern (q .amount) (duesOf (q .row)) bd z whole) (put-nothing f a (pathBy t (q .row)) 0 refl))
+      let none : SplitPart = record { «at_once» = 0; deep = 0 } in
+      subst (λ (k : ℕ). Gave t pattern ri i k rest f a bd f a bd 0) (add-one n)
+      (gave-more t pattern ri i rest f a bd n f a bd 0 (gave-nothing n (omega arith) (λ k h. rows k (omega arith))) (omega arith) q none f a bd refl most (rows n (omega arith)) (omega arith)
+      (split-nothing pattern (q .amount) (duesOf (q .row)) bd none most z refl refl) (put-nothing f a (pathBy t (q .row)) 0 refl))

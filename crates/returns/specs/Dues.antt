@@ -1,27 +1,22 @@
 -- What the split of a return asks of the dues, and what it leaves.
-use Rattle.rules.specs.Accepted.{mostAmount}
+use Rattle.rules.specs.Accepted.{GoodPattern, mostAmount}
 use Rattle.places.specs.Board.{roomy, Roomy}
 use mathlib.Core.List.{List}
 use mathlib.Core.Path.{_≡_}
-use Prim.Native.Nat.{ℕ, suc, _+_, _*_, _/_, _≤_, _<_}
+use Prim.Native.Nat.{ℕ, suc, _+_, _*_, _≤_, _<_}
 use lib.ListN.{length, getD}
-use Rattle.general.specs.Sums.{sum}
-use Rattle.rules.specs.Returns.{shares}
+use Rattle.rules.specs.Returns.{shares, deepLoss}
+use Rattle.records.specs.Records.{sumsOf}
+use Rattle.returns.specs.declared.split.SplitPart.{SplitPart}
 
-pub record CanAddShare (l : List ℕ) (place before a c p : ℕ) : Type 0 where
-  pub on : place < length l
-  pub dues-roomy : Roomy l (roomy + roomy)
-  pub small : a ≤ mostAmount
-  pub floored : before ≡ a * c / 100
-  pub percents : c + p ≤ 100
+-- the running sums of a pattern
+pub record Sums (pattern sums : List ℕ) : Type 0 where
+  pub good : GoodPattern pattern
+  pub running : sums ≡ sumsOf pattern
 
--- a pattern of twelve percents that sum to 100
-pub record Whole (pattern : List ℕ) : Type 0 where
-  pub twelve : length pattern ≡ 12
-  pub hundred : sum pattern ≡ 100
-
-pub record CanSplit (pattern : List ℕ) (a at : ℕ) (l : List ℕ) : Type 0 where
-  pub whole : Whole pattern
+pub record CanSplit (sums : List ℕ) (a at : ℕ) (l : List ℕ) : Type 0 where
+  pub pattern : List ℕ
+  pub by-sums : Sums pattern sums
   pub small : a ≤ mostAmount
   pub on : at + 11 ≤ length l
   pub dues-roomy : Roomy l (roomy + 10 * mostAmount)
@@ -32,3 +27,9 @@ pub record Lagged (pattern : List ℕ) (a at k : ℕ) (l l′ : List ℕ) : Type
   pub each : (j : ℕ) → j < k → getD l′ (at + j) 0 ≡ getD l (at + j) 0 + getD (shares a pattern) (suc j) 0
   pub under : (j : ℕ) → j < at → getD l′ j 0 ≡ getD l j 0
   pub over : (j : ℕ) → at + k ≤ j → getD l′ j 0 ≡ getD l j 0
+
+-- an amount is split: the share of this month and what goes deep are told, those of the eleven later months stand in the dues
+pub record SplitUp (pattern : List ℕ) (a at : ℕ) (l l′ : List ℕ) (x : SplitPart) : Type 0 where
+  pub at-once : x .«at_once» ≡ getD (shares a pattern) 0 0
+  pub deep : x .deep ≡ deepLoss a pattern
+  pub later : Lagged pattern a at 11 l l′

@@ -1,5 +1,6 @@
 // Calls fresh, month and stock on the October basin, with numbers that are turned down and then with good ones, and prints each answer; then
-// the same of years of a book. The good month and the good year come last, so they show that the calls before them changed nothing.
+// the same of years of a book. The good month and the good year come last, so they show that the calls before them changed nothing. Last
+// the same October by other patterns, with what goes deep.
 ghost use Rattle.io.specs.Counts.{Counts};
 use crate::saying::say;
 use crate::saying::say_stock;
@@ -10,6 +11,7 @@ use places::board::MONTH;
 
 mod booked;
 mod saying;
+mod seeping;
 
 fn read_file(name: &[u8], buf: &mut [u8]) -> usize
     ensures { λ r. ⌜ Counts r (now (buf .exit)) ⌝ }
@@ -40,9 +42,9 @@ fn wrong_lengths(file: &[u8], board: &mut [u64], report: &mut [u64]) {
         b"month, runoff of four rows:",
         month(file, &sheet, board, report),
     );
-    let mut few = [0u64; 26];
+    let mut few = [0u64; 27];
     say(
-        b"month, report of 26:",
+        b"month, report of 27:",
         month(file, &sheet[..3], board, &mut few),
     );
 }
@@ -65,7 +67,7 @@ fn wrong_numbers(file: &[u8], board: &mut [u64], report: &mut [u64]) {
 
 fn call(file: &[u8], book: &[u8]) {
     let mut board = [7u64; BOARD_LENGTH];
-    let mut report = [0u64; 27];
+    let mut report = [0u64; 28];
     say(b"fresh, no file:", fresh(&file[..0], &mut board));
     say(b"fresh:", fresh(file, &mut board));
     wrong_lengths(file, &mut board, &mut report);
@@ -84,4 +86,5 @@ fn main() {
     let mut book = io::buffer();
     let k = read_file(b"october.book.bin", &mut book);
     call(&file[..n], &book[..k]);
+    seeping::call(&mut file[..n]);
 }

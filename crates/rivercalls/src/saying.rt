@@ -8,6 +8,13 @@ fn say_number(n: u64) {
     io::print_decimal(STDOUT_FILENO, n);
 }
 
+// A number by its name.
+pub fn say_one(what: &[u8], n: u64) {
+    io::write_all(STDOUT_FILENO, what);
+    say_number(n);
+    io::write_all(STDOUT_FILENO, b"\n");
+}
+
 // What was called, and its answer.
 pub fn say(what: &[u8], answer: Answer) {
     io::write_all(STDOUT_FILENO, what);

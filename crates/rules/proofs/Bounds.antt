@@ -18,7 +18,7 @@ use Rattle.rules.specs.River.{availableAt, lowest, lesser}
 use Rattle.rules.specs.Turn.{State, pathOf, storageOf, markOf, scheduled, demand, called, divertible, riverPart, withLevels, riverStage, storagePart, storageStage, returnStage, granted, Turn, turn}
 use Rattle.general.specs.Tests.{bit}
 use Rattle.rules.specs.Month.{Carried, opening, turns, afterTurns, returnedBy, returnsAt, evaporations, evaporated, nextMonth, month}
-use Rattle.rules.specs.Accepted.{GoodRight, Accepted, mostAmount}
+use Rattle.rules.specs.Accepted.{GoodPattern, GoodRight, Accepted, mostAmount}
 use Rattle.rules.proofs.River.{lesser-le}
 use Rattle.rules.proofs.Splits.{returned-le}
 use Rattle.rules.proofs.Months.{turns-length, evaporated-length}
@@ -78,10 +78,10 @@ pub record Small (b : Basin) (t : Turn) : Type 0 where
   pub good : GoodRight b (t .right)
   pub grant-most : granted (t .grant) ≤ mostAmount
 
-returns-le : (b : Basin) (ts : List Turn) (w s : ℕ) → All (Small b) ts → returnsAt b ts w s ≤ length ts * mostAmount
+returns-le : (b : Basin) → All GoodPattern (b .patterns) → (ts : List Turn) (w s : ℕ) → All (Small b) ts → returnsAt b ts w s ≤ length ts * mostAmount
 unfolding returnsAt sumOver returnedBy
-returns-le b [] w s h = omega arith
-returns-le b (t ∷ ts) w s h = omega (arith, returned-le b (t .right) ((t .right) .kind) w s (granted (t .grant)) (h .0 .good .returns-ok), h .0 .grant-most, returns-le b ts w s (h .1))
+returns-le b g [] w s h = omega arith
+returns-le b g (t ∷ ts) w s h = omega (arith, returned-le b (t .right) g ((t .right) .kind) w s (granted (t .grant)) (h .0 .good .returns-ok), h .0 .grant-most, returns-le b g ts w s (h .1))
 
 turn-small : (b : Basin) (m i : ℕ) (r : Right) (s : State) → GoodRight b r → Small b (turn b m i r s)
 unfolding turn
@@ -98,7 +98,7 @@ month-returns-le b acc c runoff arrived w s =
     let o : State = opening b c runoff arrived in
     omega (
       arith,
-      returns-le b (turns b (c .m) 0 (b .rights) o) w s (turns-small b (c .m) 0 (b .rights) o (acc .rights-good)),
+      returns-le b (acc .patterns-good) (turns b (c .m) 0 (b .rights) o) w s (turns-small b (c .m) 0 (b .rights) o (acc .rights-good)),
       turns-length b (c .m) 0 (b .rights) o,
       acc .few-rights,
     )

@@ -10,13 +10,13 @@ use Rattle.general.specs.Tests.{_and_, has, firstAt, bit}
 use Rattle.rules.specs.Basin.{Kind, Right, Basin}
 use Rattle.rules.specs.Path.{carriesOn, rowBelow, path, untilRow}
 use Rattle.rules.specs.River.{diverted, reserved, released, returned, along, lowest, lesser}
-use Rattle.rules.specs.Returns.{consumption, returning, sharesFrom, shares, partsAt, partsOf, lagged, returnNow, returnedAt}
+use Rattle.rules.specs.Returns.{consumption, returning, sharesFrom, shares, deepLoss, partsAt, partsOf, lagged, returnNow, returnedAt, lostDeep}
 use Rattle.rules.specs.Turn.{State, scheduled, demand, anyOn, called, divertible, riverPart, withLevels, afterDiversion, riverStage, storagePart, storageStage, returnStage, shortage, reasonOf, firstOn, lowRow, numberAt, controlling, turn}
-use Rattle.rules.specs.Month.{gathered, openingLevels, opening, turns, afterTurns, consumedBy, returnedBy, returnsAt, towards, areaFrom, areaBy, areaAt, evaporation, evaporations, evaporated, nextMonth, month, reasonNumber, isShort, shortCount}
+use Rattle.rules.specs.Month.{gathered, openingLevels, opening, turns, afterTurns, consumedBy, returnedBy, returnsAt, deepBy, deepOf, towards, areaFrom, areaBy, areaAt, evaporation, evaporations, evaporated, nextMonth, month, reasonNumber, isShort, shortCount}
 use Rattle.rules.specs.Answers.{orElse, unless}
 use Rattle.rules.specs.Years.{callsIn, roomForYear, firstRefusal, runRefusal, runAnswer, runCounts, countsAs, afterEntry, entryAnswer}
 use Rattle.rules.specs.Tally.{listsFit, overLimit, overAnswer, refusal, freshCarried, freshStart, begun, stillDue, pendingFrom, pending, arriving, nextRun, accept, afterJudged, afterCall, afterCalls, answerJudged, answerOf, answers}
-use Rattle.rules.specs.Water.{totalRunoff, totalOutflow, totalConsumption, totalEvaporation, inTransit, startingStorage, startingDues}
+use Rattle.rules.specs.Water.{totalRunoff, totalOutflow, totalConsumption, totalEvaporation, totalDeep, inTransit, startingStorage, startingDues}
 use Rattle.rules.specs.Marked.{Computed}
 use Rattle.rules.proofs.Bounds.{demand-le}
 
@@ -29,7 +29,7 @@ asks-nothing : (k : Kind) (b : Basin) (m i : ℕ) (r : Right) (s : State) → r 
 asks-nothing k b m i r s e = omega (arith, demand-le b r s k m i, unscheduled m r e)
 
 pub computed : Computed
-unfolding sumOver sumOverℤ sumTo tab _and_ has firstAt follow carriesOn rowBelow path untilRow diverted reserved released returned along lowest lesser consumption returning sharesFrom shares partsAt partsOf lagged returnNow returnedAt bit scheduled demand anyOn called divertible riverPart withLevels afterDiversion riverStage storagePart storageStage returnStage shortage reasonOf firstOn lowRow numberAt controlling turn gathered openingLevels opening turns afterTurns consumedBy returnedBy returnsAt towards areaFrom areaBy areaAt evaporation evaporations evaporated nextMonth month reasonNumber isShort shortCount listsFit overLimit overAnswer orElse unless refusal freshCarried freshStart begun stillDue pendingFrom pending arriving nextRun accept afterJudged afterCall afterCalls answerJudged answerOf answers callsIn roomForYear firstRefusal runRefusal runAnswer runCounts countsAs afterEntry entryAnswer totalRunoff totalOutflow totalConsumption totalEvaporation inTransit startingStorage startingDues
+unfolding sumOver sumOverℤ sumTo tab _and_ has firstAt follow carriesOn rowBelow path untilRow diverted reserved released returned along lowest lesser consumption returning sharesFrom shares deepLoss partsAt partsOf lagged returnNow returnedAt lostDeep bit scheduled demand anyOn called divertible riverPart withLevels afterDiversion riverStage storagePart storageStage returnStage shortage reasonOf firstOn lowRow numberAt controlling turn gathered openingLevels opening turns afterTurns consumedBy returnedBy returnsAt deepBy deepOf towards areaFrom areaBy areaAt evaporation evaporations evaporated nextMonth month reasonNumber isShort shortCount listsFit overLimit overAnswer orElse unless refusal freshCarried freshStart begun stillDue pendingFrom pending arriving nextRun accept afterJudged afterCall afterCalls answerJudged answerOf answers callsIn roomForYear firstRefusal runRefusal runAnswer runCounts countsAs afterEntry entryAnswer totalRunoff totalOutflow totalConsumption totalEvaporation totalDeep inTransit startingStorage startingDues
 computed = record {
   marked = record {
     october-answer = refl;
@@ -63,6 +63,14 @@ computed = record {
     widest-table = refl;
     filled-once = refl;
     filled-mark = refl;
+    split-in-part = refl;
+    deep-in-part = refl;
+    deep-whole = refl;
+    deep-none = refl;
+    deep-by-part = refl;
+    seeping-deep = refl;
+    seeping-outflow = refl;
+    seeping-stored = refl;
     october-clears-marks = refl;
     october-clears-taken = refl;
     started-flow = refl;

@@ -20,9 +20,9 @@ use Rattle.rules.specs.Path.{lastRow}
 use Rattle.rules.specs.River.{Level, dry, levelAt, flowAt, Sound}
 use Rattle.rules.specs.Returns.{partsOf, returnedAt}
 use Rattle.rules.specs.Turn.{State, demand, riverPart, riverStage, storagePart, storageStage, returnStage, granted, Turn, turn}
-use Rattle.rules.specs.Month.{Carried, gathered, openingLevels, opening, turns, afterTurns, consumedBy, returnedBy, returnsAt, evaporation, evaporations, evaporated, MonthRun, month}
+use Rattle.rules.specs.Month.{Carried, gathered, openingLevels, opening, turns, afterTurns, consumedBy, returnedBy, returnsAt, deepBy, deepOf, evaporation, evaporations, evaporated, MonthRun, month}
 use Rattle.rules.specs.Water.{Checkpoint, TurnSound, MonthSound}
-use Rattle.rules.specs.Accepted.{Connected, GoodReservoir, GoodRight, Accepted}
+use Rattle.rules.specs.Accepted.{Connected, GoodReservoir, GoodPattern, GoodRight, Accepted}
 use Rattle.rules.proofs.Path.{path-last}
 use Rattle.rules.proofs.River.{AllSound}
 use Rattle.rules.proofs.Splits.{later, parts-in, used, all-spent}
@@ -31,7 +31,7 @@ use Rattle.rules.proofs.Stages.{Good, outflow, Balance, Lasts, leaves, 
 checkpoint : (b : Basin) (s : State) → Good b s → Checkpoint b s
 checkpoint b s g = record { size = g .size; sound = g .sound }
 
--- all that leaves the river and its reservoirs is consumed or returns
+-- all that leaves the river and its reservoirs is consumed, returns or goes deep
 leaves-used : (b : Basin) (c : Connected b) (r : Right) (k : Kind) (d x : ℕ) (s : State) → Lasts b c k r x s → leaves b c k d + x ≡ used b r k (d + x)
 leaves-used b c r direct d x s h = refl
 leaves-used b c r project d x s h = refl
@@ -45,11 +45,11 @@ laterBy b t = later b (patternOf b (t .right)) (partsOf ((t .right) .kind) (t .r
 pub record TurnOk (b : Basin) (s : State) (t : Turn) : Type 0 where
   pub sound : TurnSound b t
   pub good : Good b (t .after-returns)
-  pub balance : Balance b s (t .after-returns) 0 (consumedBy t + laterBy b t)
+  pub balance : Balance b s (t .after-returns) 0 (consumedBy t + laterBy b t + deepBy b t)
 
-module _ (b : Basin) (c : Connected b) (rows-in : RowsIn b c) where
+module _ (b : Basin) (c : Connected b) (rows-in : RowsIn b c) (patterns-good : All GoodPattern (b .patterns)) where
   pub turn-ok : (m i : ℕ) (r : Right) (s : State) → GoodRight b r → Good b s → TurnOk b s (turn b m i r s)
-  unfolding turn consumedBy
+  unfolding turn consumedBy deepBy
   turn-ok m i r s h g =
       let k : Kind = r .kind in
       let a : ℕ = demand k b m i r s in
@@ -71,7 +71,7 @@ module _ (b : Basin) (c : Connected b) (rows-in : RowsIn b c) where
           storage-balance b c rows-in k r x s₁ (h .reservoir-ok) lasts g₁,
           returns-balance b c k r (d + x) isShort s₂ (parts-in b r k (d + x) (h .returns-ok)) g₂,
           leaves-used b c r k d x s₁ lasts,
-          all-spent b r k (d + x) (h .returns-ok),
+          all-spent b r patterns-good k (d + x) (h .returns-ok),
         );
       }
 
@@ -91,16 +91,16 @@ later-all-cons b t ts =
 pub record TurnsOk (b : Basin) (s : State) (ts : List Turn) : Type 0 where
   pub sound : All (TurnSound b) ts
   pub good : Good b (afterTurns ts s)
-  pub balance : Balance b s (afterTurns ts s) 0 (sumOver consumedBy ts + laterAll b ts)
+  pub balance : Balance b s (afterTurns ts s) 0 (sumOver consumedBy ts + laterAll b ts + deepOf b ts)
 
-pub turns-ok : (b : Basin) (c : Connected b) → RowsIn b c → (m i : ℕ) (rs : List Right) (s : State) → All (GoodRight b) rs → Good b s → TurnsOk b s (turns b m i rs s)
-unfolding turns afterTurns sumOver
-turns-ok b c n m i [] s h g = record { sound = tt; good = g; balance = omega (arith, later-all-none b) }
-turns-ok b c n m i (r ∷ rs) s h g =
+pub turns-ok : (b : Basin) (c : Connected b) → RowsIn b c → All GoodPattern (b .patterns) → (m i : ℕ) (rs : List Right) (s : State) → All (GoodRight b) rs → Good b s → TurnsOk b s (turns b m i rs s)
+unfolding turns afterTurns deepOf sumOver
+turns-ok b c n p m i [] s h g = record { sound = tt; good = g; balance = omega (arith, later-all-none b) }
+turns-ok b c n p m i (r ∷ rs) s h g =
     let t : Turn = turn b m i r s in
-    let o : TurnOk b s t = turn-ok b c n m i r s (h .0) g in
+    let o : TurnOk b s t = turn-ok b c n p m i r s (h .0) g in
     let ts : List Turn = turns b m (suc i) rs (t .after-returns) in
-    let os : TurnsOk b (t .after-returns) ts = turns-ok b c n m (suc i) rs (t .after-returns) (h .1) (o .good) in
+    let os : TurnsOk b (t .after-returns) ts = turns-ok b c n p m (suc i) rs (t .after-returns) (h .1) (o .good) in
     record {
       sound = (o .sound, os .sound);
       good = os .good;
@@ -182,7 +182,7 @@ pub record MonthOk (b : Basin) (c : Carried) (runoff arriving : List ℕ) (h : M
   pub opened-good : Good b (h .opened)
   pub closed-good : Good b (h .closed)
   pub storages : length ((h .carried) .storages) ≡ length (b .reservoirs)
-  pub water : up (outflow b (h .closed)) + sumOver consumedBy (h .turns) + sum (h .evaporation) + laterAll b (h .turns) + sum ((h .carried) .storages)
+  pub water : up (outflow b (h .closed)) + sumOver consumedBy (h .turns) + sum (h .evaporation) + deepOf b (h .turns) + laterAll b (h .turns) + sum ((h .carried) .storages)
       ≡ dn (outflow b (h .closed)) + sumTo (rows b) (λ j. getD runoff j 0 + getD arriving j 0) + sum (c .storages)
 
 -- a reservoir that exists stands at a row
@@ -195,7 +195,7 @@ month-ok b acc c n runoff arriving =
     let con : Connected b = acc .connected in
     let s : State = opening b c runoff arriving in
     let g : Good b s = record { size = opening-length b con runoff arriving; storages = n; sound = opening-sound b con runoff arriving } in
-    let o : TurnsOk b s (turns b (c .m) 0 (b .rights) s) = turns-ok b con (reservoir-rows b acc) (c .m) 0 (b .rights) s (acc .rights-good) g in
+    let o : TurnsOk b s (turns b (c .m) 0 (b .rights) s) = turns-ok b con (reservoir-rows b acc) (acc .patterns-good) (c .m) 0 (b .rights) s (acc .rights-good) g in
     let e : State = afterTurns (turns b (c .m) 0 (b .rights) s) s in
     record {
       sound = record { before-first = checkpoint b s g; each-turn = o .sound };

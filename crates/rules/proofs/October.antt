@@ -50,6 +50,7 @@ october-facts = record {
   few-rights = omega arith;
   connected = record { some-row = omega arith; has-below = below };
   reservoirs-good = (reservoir-good, tt);
+  patterns-good = (record { twelve = refl; sum-most = omega arith }, tt);
   rights-good = (right-11, (right-12, (right-13, (right-14, (right-15, tt)))));
 }
   where
@@ -71,8 +72,6 @@ october-facts = record {
         efficiency-most = omega arith;
         whole = refl;
         pattern-in = omega arith;
-        pattern-whole = refl;
-        pattern-length = refl;
         rows-in = (omega arith, tt);
         few-points = omega arith;
       });

@@ -12,7 +12,7 @@ use Rattle.rules.specs.Basin.{Kind, direct, project, instream, storage, 
 use Rattle.rules.specs.Turn.{State, demand, riverPart, withLevels, riverStage, storageStage, returnStage, Turn, turn}
 use Rattle.rules.specs.Month.{Carried, opening, turns, afterTurns, evaporations, evaporated, month}
 use Rattle.rules.specs.Water.{storedBy, drawnBy, storedIn, drawnFrom}
-use Rattle.rules.specs.Accepted.{Connected, ReservoirOk, GoodRight, Accepted}
+use Rattle.rules.specs.Accepted.{Connected, ReservoirOk, GoodPattern, GoodRight, Accepted}
 use Rattle.rules.proofs.Stages.{Good, Lasts, RowsIn, river-good, river-fits, storage-lasts}
 use Rattle.rules.proofs.Months.{turn-ok, MonthOk, month-ok, evaporated-at, evaporations-length, evaporated-length, reservoir-rows}
 
@@ -49,12 +49,12 @@ module _ (b : Basin) (c : Connected b) (v : ℕ) where
         storage-entry k t s₁ (h .reservoir-ok) (storage-lasts b c k r s₁ (a - d)) (river-good b c k i r d s (river-fits b c k r s a g) g),
       )
 
-  turns-entry : RowsIn b c → (m i : ℕ) (rs : List Right) (s : State) → All (GoodRight b) rs → Good b s
+  turns-entry : RowsIn b c → All GoodPattern (b .patterns) → (m i : ℕ) (rs : List Right) (s : State) → All (GoodRight b) rs → Good b s
       → getD ((afterTurns (turns b m i rs s) s) .storages) v 0 + drawnFrom v (turns b m i rs s) ≡ getD (s .storages) v 0 + storedIn v (turns b m i rs s)
   unfolding turns afterTurns drawnFrom storedIn sumOver
-  turns-entry n m i [] s h g = omega arith
-  turns-entry n m i (r ∷ rs) s h g =
-      omega (arith, turn-entry m i r s (h .0) g, turns-entry n m (suc i) rs ((turn b m i r s) .after-returns) (h .1) (turn-ok b c n m i r s (h .0) g .good))
+  turns-entry n p m i [] s h g = omega arith
+  turns-entry n p m i (r ∷ rs) s h g =
+      omega (arith, turn-entry m i r s (h .0) g, turns-entry n p m (suc i) rs ((turn b m i r s) .after-returns) (h .1) (turn-ok b c n p m i r s (h .0) g .good))
 
 -- past the last reservoir nothing is stored
 evaporated-past : (b : Basin) (m : ℕ) (ss : List ℕ) (v : ℕ) → length ss ≡ length (b .reservoirs) → length (b .reservoirs) ≤ v
@@ -76,7 +76,7 @@ month-entry b acc c n runoff arriving v =
     let e : State = afterTurns (turns b (c .m) 0 (b .rights) s) s in
     omega (
       arith,
-      turns-entry b (acc .connected) v (reservoir-rows b acc) (c .m) 0 (b .rights) s (acc .rights-good) (k .opened-good),
+      turns-entry b (acc .connected) v (reservoir-rows b acc) (acc .patterns-good) (c .m) 0 (b .rights) s (acc .rights-good) (k .opened-good),
       lost (decLt v (length (b .reservoirs))) (e .storages) (k .closed-good .storages),
     )
   where

@@ -16,12 +16,12 @@ use Rattle.general.proofs.Sums.{sum-append, sumℤ-append, sumTo-add, sumTo-lis
 use Rattle.rules.specs.Basin.{Basin, rows}
 use Rattle.rules.specs.Path.{lastRow}
 use Rattle.rules.specs.River.{flowAt}
-use Rattle.rules.specs.Month.{consumedBy, MonthRun, month}
+use Rattle.rules.specs.Month.{consumedBy, deepOf, MonthRun, month}
 use Rattle.rules.specs.Tally.{Call, listsFit, overLimit, overAnswer, refusal, Start, Tally, begun, arriving, nextRun, accept, afterJudged, afterCall, afterCalls}
 use Rattle.rules.specs.declared.Verdict.the-variants.{Lists}
 use Rattle.rules.specs.Answers.{Answer, unless}
 use Rattle.rules.proofs.Answers.{or-first, unless-none}
-use Rattle.rules.specs.Water.{totalRunoff, totalOutflow, totalConsumption, totalEvaporation, inTransit, startingStorage, startingDues, storedIn, drawnFrom, totalStored, totalDrawn, totalLost, storageNow, allStorageNow, MonthSound, WaterKept}
+use Rattle.rules.specs.Water.{totalRunoff, totalOutflow, totalConsumption, totalEvaporation, totalDeep, inTransit, startingStorage, startingDues, storedIn, drawnFrom, totalStored, totalDrawn, totalLost, storageNow, allStorageNow, MonthSound, WaterKept}
 use Rattle.rules.specs.Accepted.{Accepted}
 use Rattle.rules.proofs.Stages.{outflow}
 use Rattle.rules.proofs.Months.{MonthOk, month-ok}
@@ -42,13 +42,13 @@ accepted-length b c e = eq-of (both-of (accepted-fits b c e) .0)
 
 pub record TallyOk (b : Basin) (t : Tally) : Type 0 where
   pub count : length ((t .carried) .storages) ≡ length (b .reservoirs)
-  pub balance : up (totalOutflow b (t .months)) + totalConsumption (t .months) + totalEvaporation (t .months) + inTransit b (t .start) (t .months) + sum ((t .carried) .storages)
+  pub balance : up (totalOutflow b (t .months)) + totalConsumption (t .months) + totalEvaporation (t .months) + totalDeep b (t .months) + inTransit b (t .start) (t .months) + sum ((t .carried) .storages)
       ≡ dn (totalOutflow b (t .months)) + totalRunoff (t .months) + (startingStorage (t .start) + startingDues b (t .start))
   pub checkpoints : All (MonthSound b) (t .months)
   pub entries : (v : ℕ) → getD ((t .carried) .storages) v 0 + totalDrawn v (t .months) + totalLost v (t .months) ≡ getD (((t .start) .carried) .storages) v 0 + totalStored v (t .months)
 
 pub begun-ok : (b : Basin) (s : Start) → length ((s .carried) .storages) ≡ length (b .reservoirs) → TallyOk b (begun s)
-unfolding begun totalOutflow totalConsumption totalEvaporation totalRunoff startingStorage totalStored totalDrawn totalLost sumOver sumOverℤ
+unfolding begun totalOutflow totalConsumption totalEvaporation totalDeep totalRunoff startingStorage totalStored totalDrawn totalLost sumOver sumOverℤ
 begun-ok b s n = record {
   count = n;
   balance = omega (arith, transit-begins b s);
@@ -68,6 +68,10 @@ module _ (b : Basin) (hs : List MonthRun) (h : MonthRun) where
   evaporation-on : totalEvaporation (hs ++ (h ∷ [])) ≡ totalEvaporation hs + sum (h .evaporation)
   unfolding totalEvaporation
   evaporation-on = sum-append _ hs h
+
+  deep-on : totalDeep b (hs ++ (h ∷ [])) ≡ totalDeep b hs + deepOf b (h .turns)
+  unfolding totalDeep
+  deep-on = sum-append _ hs h
 
   outflow-on : up (totalOutflow b (hs ++ (h ∷ []))) + dn (totalOutflow b hs) + dn (outflow b (h .closed)) ≡ dn (totalOutflow b (hs ++ (h ∷ []))) + up (totalOutflow b hs) + up (outflow b (h .closed))
   unfolding totalOutflow
@@ -105,6 +109,7 @@ accept-ok b acc t c n o =
         runoff-on b hs h,
         ap sum (month-runoff b t c),
         evaporation-on b hs h,
+        deep-on b hs h,
         consumption-on b hs h,
         outflow-on b hs h,
         transit-on b (t .start) hs h,
@@ -160,13 +165,14 @@ module _ (b : Basin) (t : Tally) (o : TallyOk b t) where
       ∙ ap pos (rw (o .count) at (sumTo-list ((t .carried) .storages)))
 
   balance-kept : pos (totalRunoff (t .months) + (startingStorage (t .start) + startingDues b (t .start)))
-      ≡ totalOutflow b (t .months) +ℤ pos (totalConsumption (t .months)) +ℤ pos (totalEvaporation (t .months)) +ℤ pos (inTransit b (t .start) (t .months)) +ℤ pos (sum ((t .carried) .storages))
+      ≡ totalOutflow b (t .months) +ℤ pos (totalConsumption (t .months)) +ℤ pos (totalEvaporation (t .months)) +ℤ pos (totalDeep b (t .months)) +ℤ pos (inTransit b (t .start) (t .months)) +ℤ pos (sum ((t .carried) .storages))
   balance-kept =
       let x : ℤ = totalOutflow b (t .months) in
       let c : ℤ = pos (totalConsumption (t .months)) in
       let e : ℤ = pos (totalEvaporation (t .months)) in
+      let d : ℤ = pos (totalDeep b (t .months)) in
       let i : ℤ = pos (inTransit b (t .start) (t .months)) in
-      eq-make (omega (arith, o .balance, add-law x c, add-law (x +ℤ c) e, add-law (x +ℤ c +ℤ e) i, add-law (x +ℤ c +ℤ e +ℤ i) (pos (sum ((t .carried) .storages)))))
+      eq-make (omega (arith, o .balance, add-law x c, add-law (x +ℤ c) e, add-law (x +ℤ c +ℤ e) d, add-law (x +ℤ c +ℤ e +ℤ d) i, add-law (x +ℤ c +ℤ e +ℤ d +ℤ i) (pos (sum ((t .carried) .storages)))))
 
   pub water-kept : WaterKept b t
   water-kept = record { balance = rw storages-kept balance-kept; storages = storage-kept; checkpoints = o .checkpoints }

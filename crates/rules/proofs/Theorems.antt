@@ -8,11 +8,11 @@ use Rattle.rules.specs.Years.{allCalls}
 use Rattle.rules.specs.Water.{WaterKept}
 use Rattle.rules.specs.Turn.{pathOf}
 use Rattle.rules.specs.River.{availableAt, lowest}
-use Rattle.rules.specs.Theorems.{Splitting, Paths, TightSpots, Areas, Possible, Fresh, CountsAsCalls, Water, StartKept, Checkpoints, Unclipped, PendingOn, PendingEnds, PendingBegins, AlwaysPossible, Resumed, OctoberAccepted}
+use Rattle.rules.specs.Theorems.{Splitting, DeepBounds, Paths, TightSpots, Areas, Possible, Fresh, CountsAsCalls, Water, StartKept, Checkpoints, Unclipped, PendingOn, PendingEnds, PendingBegins, AlwaysPossible, Resumed, OctoberAccepted}
 use Rattle.rules.proofs.Path.{path-ends, path-once, path-rising}
 use Rattle.rules.proofs.Tight.{called-first, low-first}
 use Rattle.rules.proofs.River.{lesser-signed, lowest-least}
-use Rattle.rules.proofs.Splits.{shares-sum}
+use Rattle.rules.proofs.Splits.{shares-deep, deep-none, deep-all}
 use Rattle.rules.proofs.Areas.{area-facts}
 use Rattle.rules.proofs.Months.{month-ok}
 use Rattle.rules.proofs.Years.{entries-calls, resumes}
@@ -22,7 +22,10 @@ use Rattle.rules.proofs.October.{october-facts}
 use Rattle.rules.proofs.Possible.{fresh-facts, begun-possible, calls-possible}
 
 pub splitting : Splitting
-splitting a ps h = shares-sum a ps h
+splitting a ps h = shares-deep a ps h
+
+pub deepBounds : DeepBounds
+deepBounds a ps = record { none = deep-none a ps; all = deep-all a ps }
 
 pub paths : Paths
 paths b c r h = record { ends = path-ends b c r h; once = path-once b c r h; rising = path-rising (b .stations) r h }

@@ -1,7 +1,7 @@
 -- What a basin that the file check accepts must provide to the rules: one record of plain facts.
 use mathlib.Core.Path.{_≡_}
 use mathlib.Core.Bool.{true}
-use mathlib.Core.List.{[]}
+use mathlib.Core.List.{List, []}
 use mathlib.Core.Logic.{_⊎_}
 use mathlib.Core.Option.{some}
 use Prim.Native.Nat.{ℕ, suc, _≤_, _<_}
@@ -9,7 +9,7 @@ use lib.ListN.{length, getD}
 use Rattle.general.specs.Sums.{sum}
 use Rattle.general.specs.Tables.{All}
 use Rattle.general.specs.Tests.{has}
-use Rattle.rules.specs.Basin.{Survey, Reservoir, Point, Kind, direct, project, instream, storage, Right, Basin, rows, reservoirOf, patternOf}
+use Rattle.rules.specs.Basin.{Survey, Reservoir, Point, Kind, direct, project, instream, storage, Right, Basin, rows, reservoirOf}
 use Rattle.rules.specs.Path.{rowBelow, path}
 use Rattle.rules.specs.Returns.{percents}
 
@@ -36,18 +36,21 @@ ReservoirOk project b r = (r .reservoir < length (b .reservoirs)) × (has (r .ro
 ReservoirOk instream b r = Unit {0}
 ReservoirOk storage b r = (r .reservoir < length (b .reservoirs)) × (r .row ≡ (reservoirOf b r) .row)
 
+-- a delay pattern has twelve percents, which sum to at most 100 (02, No. 5)
+pub record GoodPattern (percents : List ℕ) : Type 0 where
+  pub twelve : length percents ≡ 12
+  pub sum-most : sum percents ≤ 100
+
 -- without return points everything is consumed
 pub record Unreturned (r : Right) : Type 0 where
   pub no-points : r .points ≡ []
   pub all-used : r .efficiency ≡ 100
 
--- with return points the points' percents sum to 100, and so do those of an existing pattern of twelve
+-- with return points the points' percents sum to 100, and the pattern exists
 pub record Returned (b : Basin) (r : Right) : Type 0 where
   pub efficiency-most : r .efficiency ≤ 100
   pub whole : sum (percents r) ≡ 100
   pub pattern-in : r .pattern < length (b .patterns)
-  pub pattern-whole : sum (patternOf b r) ≡ 100
-  pub pattern-length : length (patternOf b r) ≡ 12
   pub rows-in : All (λ (q : Point). q .row < rows b) (r .points)
   pub few-points : length (r .points) ≤ 4
 
@@ -72,4 +75,5 @@ pub record Accepted (b : Basin) : Type 0 where
   pub few-rights : length (b .rights) ≤ 256
   pub connected : Connected b
   pub reservoirs-good : All (GoodReservoir b) (b .reservoirs)
+  pub patterns-good : All GoodPattern (b .patterns)
   pub rights-good : All (GoodRight b) (b .rights)

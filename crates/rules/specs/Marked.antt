@@ -11,14 +11,14 @@ use Rattle.general.specs.Tables.{tab}
 use Rattle.rules.specs.Basin.{Station, Survey, Reservoir, Kind, direct, project, instream, Right, Basin}
 use Rattle.rules.specs.Path.{rowBelow, path}
 use Rattle.rules.specs.River.{Level}
-use Rattle.rules.specs.Returns.{consumedAt, shares}
+use Rattle.rules.specs.Returns.{consumedAt, shares, deepLoss}
 use Rattle.rules.specs.Turn.{State, met, calledOut, riverLow, storageOut, Grant, demand}
-use Rattle.rules.specs.Month.{opening, grantsOf, areaAt, MonthRun}
+use Rattle.rules.specs.Month.{opening, grantsOf, deepOf, areaAt, MonthRun}
 use Rattle.rules.specs.declared.Verdict.the-variants.{Year}
 use Rattle.rules.specs.Answers.{told}
 use Rattle.rules.specs.Tally.{Call, Start, Tally, fresh, begun, pending, nextRun, afterCalls, answers}
 use Rattle.rules.specs.Years.{YearRun, yearly, afterEntry, entryAnswer}
-use Rattle.rules.specs.Water.{totalRunoff, totalOutflow, totalConsumption, totalEvaporation, inTransit, startingStorage, startingDues}
+use Rattle.rules.specs.Water.{totalRunoff, totalOutflow, totalConsumption, totalEvaporation, totalDeep, inTransit, startingStorage, startingDues}
 use Rattle.rules.specs.October.{plainRight, storageRight, returningRight, octoberStations, octoberReservoir, october, octoberCall}
 
 abbrev pub level : ℕ → ℕ → Level
@@ -141,11 +141,39 @@ filledBasin = record {
   rights = storageRight 1 18900101 0 0 100 1000 ∷ plainRight 2 18910101 project 1 0 30 ∷ [];
 }
 
+-- A direct right that diverts 2 units returns one at each row, by a pattern of 50 percent: of a single unit no half comes back, and both go deep. An
+-- instream right and a storage right, served after it, lose nothing deep, however much they are granted.
+abbrev pub seepingRight : Right
+seepingRight = record {
+  permit = 1;
+  date = 18900101;
+  kind = direct;
+  row = 0;
+  reservoir = 255;
+  efficiency = 0;
+  pattern = 0;
+  months = 4095;
+  limit = 0;
+  amounts = replicate 12 2;
+  points = record { row = 0; percent = 50 } ∷ record { row = 1; percent = 50 } ∷ [];
+}
+
+abbrev pub seepingBasin : Basin
+seepingBasin = record {
+  stations = twoStations;
+  reservoirs = lake 1000 0 0 ∷ [];
+  patterns = (50 ∷ replicate 11 0) ∷ [];
+  rights = seepingRight ∷ plainRight 2 18910101 instream 1 255 40 ∷ storageRight 3 18920101 0 0 30 1000 ∷ [];
+}
+
 abbrev pub sheet : ℕ → ℕ → Call
 sheet x y = record { runoff = x ∷ y ∷ []; report = 27 }
 
 abbrev pub grantsIn : Basin → List Call → Call → List Grant
 grantsIn b before c = grantsOf ((nextRun b (afterCalls b (fresh b) before) c) .turns)
+
+abbrev pub afterSeeping : Tally
+afterSeeping = afterCalls seepingBasin (fresh seepingBasin) (sheet 100 0 ∷ [])
 
 -- an October that begins with water taken and a filled mark
 abbrev pub secondOctober : State
@@ -159,9 +187,9 @@ abbrev pub afterJanuary : Tally
 afterJanuary = afterCalls shallowBasin (begun january) (sheet 100 0 ∷ [])
 
 -- A year whose October is over the limit, and one whose last two months are, at the second row and at the first. The reports of the basin, of two rows, one
--- reservoir and no right, have five numbers.
+-- reservoir and no right, have six numbers.
 abbrev pub wetOctober : YearRun
-wetOctober = record { lookup = none; sheets = (1_000_000_001 ∷ 0 ∷ []) ∷ replicate 11 (100 ∷ 0 ∷ []); room = 60 }
+wetOctober = record { lookup = none; sheets = (1_000_000_001 ∷ 0 ∷ []) ∷ replicate 11 (100 ∷ 0 ∷ []); room = 72 }
 
 abbrev pub wetAutumn : ℕ → YearRun
 wetAutumn room = record { lookup = none; sheets = replicate 10 (100 ∷ 0 ∷ []) ++ ((0 ∷ 1_000_000_001 ∷ []) ∷ (1_000_000_001 ∷ 0 ∷ []) ∷ []); room = room }
@@ -173,7 +201,7 @@ unlisted = record { lookup = some (told Year); sheets = []; room = 0 }
 abbrev pub mixedCalls : List Call
 mixedCalls =
     record { runoff = 100 ∷ []; report = 27 }
-    ∷ record { runoff = 0 ∷ 0 ∷ []; report = 12 }
+    ∷ record { runoff = 0 ∷ 0 ∷ []; report = 13 }
     ∷ sheet 0 1_000_000_001
     ∷ sheet 1_000_000_001 1_000_000_001
     ∷ sheet 100 0
@@ -190,7 +218,7 @@ pub record Told : Type 0 where
       ∷ []
   pub called-leaves : (nextRun calledBasin (fresh calledBasin) (sheet 100 0)) .closed .levels ≡ level 150 150 ∷ level 50 50 ∷ []
   -- the first tight spot downstream: the second right finds rows 2 and 3 lowest, the fifth finds both short; the fourth's own shortage does not count for it
-  pub first-tight : grantsIn tightBasin [] (record { runoff = 20 ∷ 0 ∷ 0 ∷ 0 ∷ []; report = 32 }) ≡
+  pub first-tight : grantsIn tightBasin [] (record { runoff = 20 ∷ 0 ∷ 0 ∷ 0 ∷ []; report = 33 }) ≡
       record { fromRiver = 10; fromStorage = 0; reason = met; station = 0 }
       ∷ record { fromRiver = 10; fromStorage = 0; reason = riverLow; station = 30 }
       ∷ record { fromRiver = 0; fromStorage = 0; reason = riverLow; station = 40 }
@@ -210,6 +238,16 @@ pub record Told : Type 0 where
   pub filled-once : grantsIn filledBasin (sheet 100 0 ∷ []) (sheet 100 0) ≡
       record { fromRiver = 0; fromStorage = 0; reason = met; station = 0 } ∷ record { fromRiver = 30; fromStorage = 0; reason = met; station = 0 } ∷ []
   pub filled-mark : (afterCalls filledBasin (fresh filledBasin) (sheet 100 0 ∷ [])) .carried ≡ record { m = 1; storages = 70 ∷ []; marks = true ∷ []; taken = 100 ∷ 0 ∷ [] }
+  -- 805 by 50 and 30 percent: 161 go deep; by twelve zeros everything does; by percents that sum to 100 nothing
+  pub split-in-part : shares 805 (50 ∷ 30 ∷ []) ≡ 402 ∷ 242 ∷ []
+  pub deep-in-part : deepLoss 805 (50 ∷ 30 ∷ []) ≡ 161
+  pub deep-whole : deepLoss 805 (replicate 12 0) ≡ 805
+  pub deep-none : deepLoss 805 (50 ∷ 30 ∷ 20 ∷ []) ≡ 0
+  -- each point's part loses by itself: two units, where the two together would lose one; what leaves the basin is 100 without these and what is stored
+  pub deep-by-part : deepOf seepingBasin ((nextRun seepingBasin (fresh seepingBasin) (sheet 100 0)) .turns) ≡ 2
+  pub seeping-deep : totalDeep seepingBasin (afterSeeping .months) ≡ 2
+  pub seeping-outflow : totalOutflow seepingBasin (afterSeeping .months) ≡ pos 68
+  pub seeping-stored : (afterSeeping .carried) .storages ≡ 30 ∷ []
   -- October clears marks and taken
   pub october-clears-marks : secondOctober .marks ≡ false ∷ []
   pub october-clears-taken : secondOctober .taken ≡ 0 ∷ 0 ∷ []
@@ -219,12 +257,12 @@ pub record Told : Type 0 where
   pub started-sum : totalRunoff (afterJanuary .months) + (startingStorage (afterJanuary .start) + startingDues shallowBasin (afterJanuary .start)) ≡ 142
   pub started-evaporation : totalEvaporation (afterJanuary .months) ≡ 30
   pub started-month : (afterJanuary .carried) .m ≡ 4
-  -- a year run from January: nine calls, and October's sheet is not looked at; of the other nothing happens; a list of 59 numbers has no room for twelve reports
+  -- a year run from January: nine calls, and October's sheet is not looked at; of the other nothing happens; a list of 71 numbers has no room for twelve reports
   pub run-made : entryAnswer shallowBasin (begun january) (yearly wetOctober) ≡ record { number = 0; place = 9 }
   pub run-ends : (afterEntry shallowBasin (begun january) (yearly wetOctober)) .carried ≡ record { m = 0; storages = 0 ∷ []; marks = false ∷ []; taken = [] }
-  pub run-refused : entryAnswer shallowBasin (begun january) (yearly (wetAutumn 60)) ≡ record { number = 8; place = 1 }
-  pub run-undone : afterEntry shallowBasin (begun january) (yearly (wetAutumn 60)) ≡ begun january
-  pub run-short : entryAnswer shallowBasin (begun january) (yearly (wetAutumn 59)) ≡ record { number = 6; place = 0 }
+  pub run-refused : entryAnswer shallowBasin (begun january) (yearly (wetAutumn 72)) ≡ record { number = 8; place = 1 }
+  pub run-undone : afterEntry shallowBasin (begun january) (yearly (wetAutumn 72)) ≡ begun january
+  pub run-short : entryAnswer shallowBasin (begun january) (yearly (wetAutumn 71)) ≡ record { number = 6; place = 0 }
   pub run-unlisted : entryAnswer shallowBasin (begun january) (yearly unlisted) ≡ record { number = 10; place = 0 }
   -- refusals: 6 for a short sheet or report, 8 with the first row over the limit; of the five calls one is a month
   pub refusals : answers filledBasin (fresh filledBasin) mixedCalls

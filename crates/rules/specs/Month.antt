@@ -11,7 +11,7 @@ use Rattle.general.specs.Tests.{has}
 use Rattle.rules.specs.Basin.{Survey, Reservoir, Right, Basin, rows, reservoirAt, patternOf}
 use Rattle.rules.specs.Path.{path}
 use Rattle.rules.specs.River.{Level}
-use Rattle.rules.specs.Returns.{consumption, partsOf, returnedAt}
+use Rattle.rules.specs.Returns.{consumption, partsOf, returnedAt, lostDeep}
 use Rattle.rules.specs.Turn.{State, Reason, met, calledOut, riverLow, storageOut, Grant, granted, Turn, turn}
 
 -- What is carried from month to month, but for the returns on their way: the next month m, storages, filled marks, water taken this year.
@@ -71,6 +71,13 @@ returnedBy b w s t = returnedAt (patternOf b (t .right)) w s (partsOf ((t .right
 
 unfoldable pub returnsAt : Basin → List Turn → ℕ → ℕ → ℕ
 returnsAt b ts w s = sumOver (returnedBy b w s) ts
+
+-- of a turn what goes deep, and of all turns of a month
+unfoldable pub deepBy : Basin → Turn → ℕ
+deepBy b t = lostDeep (patternOf b (t .right)) (partsOf ((t .right) .kind) (t .right) (granted (t .grant)))
+
+unfoldable pub deepOf : Basin → List Turn → ℕ
+deepOf b ts = sumOver (deepBy b) ts
 
 -- ---- step 4: evaporation (areas as 02, No. 1)
 

@@ -83,4 +83,4 @@ october = record {
 }
 
 abbrev pub octoberCall : Call
-octoberCall = record { runoff = 2000 ∷ 700 ∷ 300 ∷ []; report = 27 }
+octoberCall = record { runoff = 2000 ∷ 700 ∷ 300 ∷ []; report = 28 }

@@ -1,9 +1,9 @@
--- What a diversion consumes, and where and when the rest returns (01, "The board and one month", step 3).
+-- What a diversion consumes, where and when the rest returns (01, "The board and one month", step 3), and what of it goes deep (02, No. 5).
 use mathlib.Core.List.{List, [], _∷_, map}
 use Prim.Native.Nat.{ℕ, _+_, _-_, _*_, _/_}
 use lib.Dec.{eqb}
 use lib.ListN.{getD}
-use Rattle.general.specs.Sums.{sumOver, only}
+use Rattle.general.specs.Sums.{sumOver, sum, only}
 use Rattle.rules.specs.Basin.{Station, Point, Kind, direct, project, instream, storage, Right}
 use Rattle.rules.specs.Path.{path}
 use Rattle.rules.specs.River.{Level, along, returned}
@@ -36,6 +36,10 @@ sharesFrom a c (p ∷ ps) = (a * (c + p) / 100 - a * c / 100) ∷ sharesFrom a (
 unfoldable pub shares : ℕ → List ℕ → List ℕ
 shares a ps = sharesFrom a 0 ps
 
+-- What no share gets, where the percents sum to less than 100: it seeps below the river for good.
+unfoldable pub deepLoss : ℕ → List ℕ → ℕ
+deepLoss a ps = a - a * sum ps / 100
+
 -- ---- over the return points, then over the months
 
 -- the part of a diversion that comes back at a row
@@ -67,3 +71,7 @@ returnNow st pattern (q ∷ qs) l = returnNow st pattern qs (along (returned (la
 -- of these parts: what returns at row w, s months after the diversion
 unfoldable pub returnedAt : List ℕ → ℕ → ℕ → List Part → ℕ
 returnedAt pattern w s qs = sumOver (λ (q : Part). only (eqb (q .row) w) (lagged pattern s q)) qs
+
+-- of these parts: what goes deep, each part by itself
+unfoldable pub lostDeep : List ℕ → List Part → ℕ
+lostDeep pattern qs = sumOver (λ (q : Part). deepLoss (q .amount) pattern) qs

@@ -11,7 +11,7 @@ use Rattle.general.specs.Tests.{has}
 use Rattle.rules.specs.Basin.{Survey, Reservoir, Right, Basin, rows, surveyAt, reservoirAt, rightAt}
 use Rattle.rules.specs.Path.{path, untilRow, lastRow}
 use Rattle.rules.specs.River.{availableAt, lower, lowest, lesser}
-use Rattle.rules.specs.Returns.{shares}
+use Rattle.rules.specs.Returns.{shares, deepLoss}
 use Rattle.rules.specs.Turn.{State, pathOf, called, isShortAt, firstShort, isLowest, firstLowest}
 use Rattle.rules.specs.Month.{returnsAt, onLine, areaAt, MonthRun, month}
 use Rattle.rules.specs.Tally.{Start, freshStart, Tally, begun, standing, afterCalls, pending}
@@ -20,10 +20,18 @@ use Rattle.rules.specs.Water.{startingStorage, startingDues, Checkpoint,
 use Rattle.rules.specs.Accepted.{Connected, Accepted}
 use Rattle.rules.specs.October.{october}
 
--- ---- splitting: of any amount nothing is lost, by whatever percents, as long as they sum to 100
+-- ---- splitting: of any amount nothing is lost but what goes deep, by whatever percents, as long as they sum to at most 100
 
 abbrev pub Splitting : Type 0
-Splitting = (a : ℕ) (ps : List ℕ) → sum ps ≡ 100 → sum (shares a ps) ≡ a
+Splitting = (a : ℕ) (ps : List ℕ) → sum ps ≤ 100 → sum (shares a ps) + deepLoss a ps ≡ a
+
+-- where they sum to 100 nothing goes deep, and where they sum to 0 everything does
+pub record DeepFacts (a : ℕ) (ps : List ℕ) : Type 0 where
+  pub none : sum ps ≡ 100 → deepLoss a ps ≡ 0
+  pub all : sum ps ≡ 0 → deepLoss a ps ≡ a
+
+abbrev pub DeepBounds : Type 0
+DeepBounds = (a : ℕ) (ps : List ℕ) → DeepFacts a ps
 
 -- ---- paths
 

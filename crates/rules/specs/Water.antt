@@ -11,7 +11,7 @@ use Rattle.rules.specs.Basin.{Kind, direct, project, instream, storage, 
 use Rattle.rules.specs.Path.{lastRow}
 use Rattle.rules.specs.River.{levelAt, flowAt, Sound}
 use Rattle.rules.specs.Turn.{State, Turn}
-use Rattle.rules.specs.Month.{consumedBy, MonthRun}
+use Rattle.rules.specs.Month.{consumedBy, deepOf, MonthRun}
 use Rattle.rules.specs.Tally.{Start, Tally, pending}
 
 -- ---- totals over the accepted months
@@ -28,6 +28,10 @@ totalConsumption hs = sumOver (λ (h : MonthRun). sumOver consumedBy (h .turns))
 
 unfoldable pub totalEvaporation : List MonthRun → ℕ
 totalEvaporation hs = sumOver (λ (h : MonthRun). sum (h .evaporation)) hs
+
+-- deep loss, by the grants
+unfoldable pub totalDeep : Basin → List MonthRun → ℕ
+totalDeep b hs = sumOver (λ (h : MonthRun). deepOf b (h .turns)) hs
 
 -- returns in transit: all that is pending, at every row and for each of the next eleven months
 unfoldable pub inTransit : Basin → Start → List MonthRun → ℕ
@@ -100,9 +104,9 @@ pub record MonthSound (b : Basin) (h : MonthRun) : Type 0 where
 -- ---- no water is lost and none appears
 
 pub record WaterKept (b : Basin) (t : Tally) : Type 0 where
-  -- runoff + the start's storages and dues = outflow + consumption + evaporation + returns on their way + storage now
+  -- runoff + the start's storages and dues = outflow + consumption + evaporation + deep loss + returns on their way + storage now
   pub balance : pos (totalRunoff (t .months) + (startingStorage (t .start) + startingDues b (t .start)))
-      ≡ totalOutflow b (t .months) +ℤ pos (totalConsumption (t .months)) +ℤ pos (totalEvaporation (t .months)) +ℤ pos (inTransit b (t .start) (t .months)) +ℤ allStorageNow b (t .start) (t .months)
+      ≡ totalOutflow b (t .months) +ℤ pos (totalConsumption (t .months)) +ℤ pos (totalEvaporation (t .months)) +ℤ pos (totalDeep b (t .months)) +ℤ pos (inTransit b (t .start) (t .months)) +ℤ allStorageNow b (t .start) (t .months)
   -- each storage by the grants is the storage that the tally keeps
   pub storages : (v : ℕ) → storageNow (t .start) (t .months) v ≡ pos (getD ((t .carried) .storages) v 0)
   -- 0 ≤ available flow ≤ flow, at every row and checkpoint of every accepted month

@@ -1,15 +1,14 @@
 -- A whole turn, from what its stages left in the arrays to the rules' turn. Assumes nothing.
 use mathlib.Core.Bool.{Bool, true, false, cond}
-use mathlib.Core.List.{List, []}
+use mathlib.Core.List.{List}
 use mathlib.Core.Path.{_≡_, refl, sym, ap, _∙_, subst}
 use Prim.Native.Nat.{ℕ, suc, _+_, _-_, _≤_, _<_}
 use native.Mathlib.Omega.{arith}
 use lib.Dec.{ltb}
 use lib.ListN.{length, set, length-set}
-use Rattle.general.specs.Sums.{sumOver}
 use Rattle.places.specs.Board.{duePlace, dueAt}
 use Rattle.rules.specs.Basin.{Right, rows, patternOf}
-use Rattle.rules.specs.Returns.{partsOf, returnedAt}
+use Rattle.rules.specs.Returns.{Part, partsOf, returnedAt, lostDeep}
 use Rattle.rules.specs.Turn.{granted, Grant, turn}
 use Rattle.records.specs.declared.rights.Kind.the-variants.{Project, Storage}
 use Rattle.grants.specs.declared.grants.Grant as program
@@ -17,19 +16,15 @@ use Rattle.grants.specs.Stages.{capacityIn}
 use Rattle.returns.specs.Returning.{partsIn, Gave}
 use Rattle.turns.specs.Finish.{restOf}
 use Rattle.turns.specs.State.{stateOf, homeOf, Tells, Kept, Turned}
-use Rattle.turns.proofs.Given.{RightAt, theRecord, theKind, theReservoir, thePoints, thePattern, theRight, BeforeTurn, theState, AfterRiver, AfterStorage, AfterTurn, theDemand, thePart}
+use Rattle.turns.proofs.Given.{RightAt, theRecord, theKind, theReservoir, thePoints, theRight, BeforeTurn, theState, AfterRiver, AfterStorage, AfterTurn, theDemand, thePart}
 use Rattle.turns.proofs.Facts.{reservoirs-count, rights-count}
-use Rattle.turns.proofs.RightFacts.{place-most, project-behind, storage-behind, points-ok}
+use Rattle.turns.proofs.RightFacts.{place-most, project-behind, storage-behind, points-ok, sums-are}
 use Rattle.turns.proofs.Keeping.{kept-same, kept-on, kept-stored, kept-drawn}
 use Rattle.turns.proofs.Demands.{ask-is, part-is}
-use Rattle.turns.proofs.ReturnParts.{parts-is, pattern-either}
+use Rattle.turns.proofs.ReturnParts.{parts-is}
 use Rattle.turns.proofs.StageStates.{river-stage, drawn-is, storage-stage-is, return-stage}
 use Rattle.turns.proofs.Serving.{Staged, turn-after, turn-river, turn-storage, tells}
 use Rattle.turns.proofs.Readying.{unmarked, size₁, board-moved, grown₂}
-
-returned-nothing : (p u : List ℕ) (k s : ℕ) → returnedAt p k s [] ≡ returnedAt u k s []
-unfolding returnedAt sumOver
-returned-nothing p u k s = refl
 
 module _ (T : BeforeTurn) where
   abbrev R : RightAt
@@ -73,18 +68,20 @@ module _ (T : BeforeTurn) where
     abbrev rest : ℕ
     rest = restOf d ((theRecord R) .efficiency)
 
-    gave-back : Gave (R .table) (thePattern R) (R .rights) (R .place) (thePoints R) rest (S .flow) (S .river .available) (S .board) (A .flow) (A .available) (A .board)
-    gave-back = A .finished .gave
+    gave-back : Gave (R .table) (patternOf (R .basin) r) (R .rights) (R .place) (thePoints R) rest (S .flow) (S .river .available) (S .board) (A .flow) (A .available) (A .board) (A .grant .deep)
+    gave-back = A .finished .gave (patternOf (R .basin) r) (sums-are R)
 
     both : granted now ≡ d
     both = omega (arith, turn-river (R .basin) (T .month) (R .place) r (theState T) g, turn-storage (R .basin) (T .month) (R .place) r (theState T) g)
 
+    -- the parts that were given back are the rules'
+    parts-same : partsIn (R .rights) (R .place) rest (thePoints R) ≡ partsOf (r .kind) r (granted now)
+    parts-same = sym (parts-is R d) ∙ ap (partsOf (r .kind) r) (sym both)
+
     dues-are : (k j : ℕ) → j < 11 → dueAt (A .board) k (suc j) ≡ dueAt (T .board) k (suc j) + returnedAt (patternOf (R .basin) r) k (suc j) (partsOf (r .kind) r (granted now))
     dues-are k j l = gave-back .dues k j l
-        ∙ ap (λ (y : ℕ). y + returnedAt (thePattern R) k (suc j) (partsIn (R .rights) (R .place) rest (thePoints R))) (board-moved T S .dues (duePlace k j) (omega arith))
-        ∙ ap (λ (y : ℕ). dueAt (T .board) k (suc j) + y)
-        (pattern-either R (λ p qs. returnedAt p k (suc j) qs) (λ p u. returned-nothing p u k (suc j)) rest
-        ∙ ap (returnedAt (patternOf (R .basin) r) k (suc j)) (sym (parts-is R d) ∙ ap (partsOf (r .kind) r) (sym both)))
+        ∙ ap (λ (y : ℕ). y + returnedAt (patternOf (R .basin) r) k (suc j) (partsIn (R .rights) (R .place) rest (thePoints R))) (board-moved T S .dues (duePlace k j) (omega arith))
+        ∙ ap (λ (qs : List Part). dueAt (T .board) k (suc j) + returnedAt (patternOf (R .basin) r) k (suc j) qs) parts-same
 
     short-size : length (A .short) ≡ length (T .short)
     short-size = ap length (A .finished .marked) ∙ go (ltb d (theDemand (S .river)))
@@ -118,8 +115,9 @@ module _ (T : BeforeTurn) where
     turned = record {
       state = return-stage R d (ltb d (theDemand (S .river))) (S .flow) (S .river .available) (A .flow) (A .available) (T .short) (A .short) (S .board) (A .board) (gave-back .levels (rows (R .basin))) (gave-back .same) (A .finished .marked) (T .marks)
           ∙ sym (turn-after (R .basin) (T .month) (R .place) r (theState T) g);
-      tells = subst (λ (u : program.Grant). Tells now (homeOf (R .basin) r) u) (sym (A .finished .grant)) (tells T g (S .river .given .river) (S .river .given .gave) refl);
+      tells = subst (λ (u : program.Grant). Tells now (homeOf (R .basin) r) u) (sym (A .finished .grant)) (tells T g (S .river .given .river) (S .river .given .gave) refl (A .grant .deep));
       dues = dues-are;
+      deep = gave-back .lost ∙ ap (lostDeep (patternOf (R .basin) r)) parts-same;
       month = gave-back .same 0 (omega arith) ∙ board-moved T S .month;
       size = gave-back .size ∙ board-moved T S .size;
       flow-size = gave-back .flow-size ∙ S .drew .flow-size ∙ S .river .took .flow-size;
@@ -128,5 +126,6 @@ module _ (T : BeforeTurn) where
       grown = λ k h. omega (arith, gave-back .grown k h, few-points, grown₂ T S k h);
       within = gave-back .within;
       filled = λ j. omega (arith, gave-back .filled j, few-points, board-moved T S .filled j);
+      deep-most = omega (arith, gave-back .lost-most, few-points);
       kept = kept-all;
     }

@@ -9,7 +9,8 @@ use lib.ListN.{getD, set}
 use Rattle.general.proofs.Tests.{ltb-yes, ltb-no}
 use Rattle.records.specs.declared.rights.RightRecord.{RightRecord}
 use Rattle.grants.specs.declared.grants.Reason.the-variants.{Met}
-use Rattle.returns.specs.Returning.{PointsOk, CanGive, Gave}
+use Rattle.returns.specs.Dues.{Sums}
+use Rattle.returns.specs.Returning.{PointsOk, CanGive, Gave, GaveBy}
 use Rattle.turns.specs.declared.serve.Share.{Share}
 use Rattle.turns.specs.Finish.{restOf, given, CanFinish, Finished}
 
@@ -32,14 +33,14 @@ module _ {t : List ℕ} {pa : List (List ℕ)} {ri : List ℕ} {i : ℕ} {r : Ri
       board = o .board;
     }
 
-    module _ {f′ a′ bd′ : List ℕ} (g : Gave t (getD pa which []) ri i points (restOf (given x) e) f a bd f′ a′ bd′) where
-      gave : Gave t (getD pa (r .pattern) []) ri i (r .points) (restOf (given x) (r .efficiency)) f a bd f′ a′ bd′
-      gave = subst (λ (y : ℕ). Gave t (getD pa (r .pattern) []) ri i (r .points) (restOf (given x) y) f a bd f′ a′ bd′) ee
-          (subst (λ (y : ℕ). Gave t (getD pa (r .pattern) []) ri i y (restOf (given x) e) f a bd f′ a′ bd′) ep
-          (subst (λ (y : ℕ). Gave t (getD pa y []) ri i points (restOf (given x) e) f a bd f′ a′ bd′) ew g))
+    module _ {f′ a′ bd′ : List ℕ} {deep : ℕ} (g : GaveBy t (getD pa which []) ri (record { right = i; points = points; pattern = which; amount = restOf (given x) e }) f a bd f′ a′ bd′ deep) where
+      gave : (pattern : List ℕ) → (0 < r .points → Sums pattern (getD pa (r .pattern) [])) → Gave t pattern ri i (r .points) (restOf (given x) (r .efficiency)) f a bd f′ a′ bd′ deep
+      gave pattern o = subst (λ (y : ℕ). Gave t pattern ri i (r .points) (restOf (given x) y) f a bd f′ a′ bd′ deep) ee
+          (subst (λ (y : ℕ). Gave t pattern ri i y (restOf (given x) e) f a bd f′ a′ bd′ deep) ep
+          (g pattern (λ h. subst (λ (y : ℕ). Sums pattern (getD pa y [])) (sym ew) (o (omega (arith, h, ep))))))
 
       pub finished-short : {row : ℕ} → row ≡ r .row → given x < x .demand
-          → Finished t pa ri i r x f a sh bd f′ a′ (set sh row true) bd′ (record { «from_river» = x .«from_river»; «from_storage» = x .«from_storage»; reason = x .reason })
+          → Finished t pa ri i r x f a sh bd f′ a′ (set sh row true) bd′ (record { «from_river» = x .«from_river»; «from_storage» = x .«from_storage»; reason = x .reason; deep = deep })
       finished-short er h = record {
         gave = gave;
         marked = rw (ltb-yes (given x) (x .demand) h) (ap (λ (y : ℕ). set sh y true) er);
@@ -47,5 +48,5 @@ module _ {t : List ℕ} {pa : List (List ℕ)} {ri : List ℕ} {i : ℕ} {r : Ri
       }
 
       pub finished-met : x .demand ≤ given x
-          → Finished t pa ri i r x f a sh bd f′ a′ sh bd′ (record { «from_river» = x .«from_river»; «from_storage» = x .«from_storage»; reason = Met })
+          → Finished t pa ri i r x f a sh bd f′ a′ sh bd′ (record { «from_river» = x .«from_river»; «from_storage» = x .«from_storage»; reason = Met; deep = deep })
       finished-met h = record { gave = gave; marked = rw (ltb-no (given x) (x .demand) h); grant = rw (ltb-no (given x) (x .demand) h) }

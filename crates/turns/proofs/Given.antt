@@ -51,12 +51,12 @@ theReservoir R = (theRecord R) .reservoir
 abbrev pub thePath : RightAt → List ℕ
 thePath R = pathBy (R .table) (theRow R)
 
--- how many points it has, and the pattern that they share
+-- how many points it has, and the running sums of the pattern that they share
 abbrev pub thePoints : RightAt → ℕ
 thePoints R = (theRecord R) .points
 
-abbrev pub thePattern : RightAt → List ℕ
-thePattern R = getD (R .patterns) ((theRecord R) .pattern) []
+abbrev pub theSums : RightAt → List ℕ
+theSums R = getD (R .patterns) ((theRecord R) .pattern) []
 
 -- the same right as the rules have it
 abbrev pub theRight : RightAt → Right

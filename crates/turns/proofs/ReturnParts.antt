@@ -5,24 +5,24 @@ use Prim.Native.Nat.{ℕ, zero, suc, _-_, _*_, _/_, _<_}
 use native.Mathlib.Omega.{arith}
 use lib.ListN.{length, getD}
 use lib.Seq.{ext-getD}
+use Rattle.general.specs.Sums.{upTo}
 use Rattle.general.specs.Tables.{tab, All}
 use Rattle.general.proofs.Entries.{all-tab}
 use Rattle.general.proofs.Sums.{sumTo-same}
 use Rattle.general.proofs.Tables.{tab-length, tab-at}
-use Rattle.general.proofs.Tests.{by-eqb}
 use Rattle.rules.specs.Basin as rules
-use Rattle.rules.specs.Basin.{Point, direct, project, instream, storage, Right, Basin, rows, patternOf}
+use Rattle.rules.specs.Basin.{Point, direct, project, instream, storage, Right, rows}
 use Rattle.rules.specs.River.{Level}
 use Rattle.rules.specs.Returns.{consumption, returning, shares, Part, partsAt, percents, partsOf, returnNow}
 use Rattle.rules.specs.Accepted.{ReturnsOk}
 use Rattle.rules.proofs.Splits.{shares-length}
 use Rattle.records.specs.Records.{returnRow, returnPercent}
 use Rattle.returns.specs.Returning.{pointsUpTo, partIn, partsIn, returnBy}
-use Rattle.returns.proofs.Shares.{upTo, share-at}
+use Rattle.returns.proofs.Shares.{share-at}
 use Rattle.turns.specs.Finish.{restOf}
-use Rattle.turns.proofs.Given.{RightAt, theRecord, thePoints, thePattern, theRight}
+use Rattle.turns.proofs.Given.{RightAt, theRecord, thePoints, theRight}
 use Rattle.turns.proofs.Facts.{path-is}
-use Rattle.turns.proofs.RightFacts.{right-good, efficiency-is, points-are, pointAt, point-in, points-count, percents-count, pattern-same, percent-at}
+use Rattle.turns.proofs.RightFacts.{right-good, efficiency-is, points-are, pointAt, point-in, points-count, percents-count, percent-at}
 
 -- ---- parts of a return
 
@@ -49,10 +49,6 @@ part-row ri i rest k = refl
 parts-zero : (ri : List ℕ) (i rest : ℕ) → partsIn ri i rest 0 ≡ []
 unfolding partsIn tab
 parts-zero ri i rest = refl
-
-pub returns-none : (b : Basin) (p : List ℕ) (l : List Level) → returnNow (b .stations) p [] l ≡ l
-unfolding returnNow
-returns-none b p l = refl
 
 module _ (R : RightAt) where
   abbrev r : Right
@@ -108,16 +104,11 @@ module _ (R : RightAt) where
   pub parts-is : (d : ℕ) → partsOf (r .kind) r d ≡ partsIn (R .rights) (R .place) (restOf d ((theRecord R) .efficiency)) (thePoints R)
   parts-is d = parts-by (r .kind) ((right-good R) .returns-ok) d
 
-  -- the table's paths and the decoded (thePattern R) are the rules'
+  -- the table's paths are the rules'
   pub by-rules : (pat : List ℕ) (qs : List Part) (l : List Level) → All (λ (q : Part). q .row < rows (R .basin)) qs → returnBy (R .table) pat qs l ≡ returnNow (R .basin .stations) pat qs l
   unfolding returnBy returnNow
   by-rules pat [] l h = refl
   by-rules pat (q ∷ qs) l h = rw (path-is (R .setting) (q .row) (h .0)) (by-rules pat qs _ (h .1))
-
-  pub pattern-either : {X : Type 0} (f : List ℕ → List Part → X) → ((p q : List ℕ) → f p [] ≡ f q []) → (d : ℕ) → f (thePattern R) (partsIn (R .rights) (R .place) d (thePoints R)) ≡ f (patternOf (R .basin) r) (partsIn (R .rights) (R .place) d (thePoints R))
-  pattern-either f e d = by-eqb (thePoints R) 0 (λ _. f (thePattern R) (partsIn (R .rights) (R .place) d (thePoints R)) ≡ f (patternOf (R .basin) r) (partsIn (R .rights) (R .place) d (thePoints R)))
-      (λ z. rw (ap (partsIn (R .rights) (R .place) d) z ∙ parts-zero (R .rights) (R .place) d) (e (thePattern R) (patternOf (R .basin) r)))
-      (λ z. ap (λ (p : List ℕ). f p (partsIn (R .rights) (R .place) d (thePoints R))) (sym (pattern-same R (omega arith))))
 
   pub parts-rows : (d : ℕ) → All (λ (q : Part). q .row < rows (R .basin)) (partsIn (R .rights) (R .place) d (thePoints R))
   unfolding partsIn

@@ -12,11 +12,12 @@ use Rattle.general.proofs.Sums.{sumTo-same, sumTo-list}
 use Rattle.general.proofs.Tables.{tab-length, tab-at}
 use Rattle.rules.specs.Basin.{Point, Kind, direct, project, instream, storage, noRight, rows, patternOf}
 use Rattle.rules.specs.Returns.{percents}
-use Rattle.rules.specs.Accepted.{GoodRight, ReservoirOk, ReturnsOk, Unreturned, Returned}
+use Rattle.rules.specs.Accepted.{GoodPattern, GoodRight, ReservoirOk, ReturnsOk, Unreturned, Returned}
 use Rattle.records.specs.declared.rights.Kind.the-variants.{Project, Storage}
-use Rattle.records.specs.Records.{reservoirCount, returnRow, returnPercent, kindOf, rightOf}
+use Rattle.records.specs.Records.{reservoirCount, sumsOf, returnRow, returnPercent, kindOf, rightOf}
+use Rattle.returns.specs.Dues.{Sums}
 use Rattle.returns.specs.Returning.{pointsUpTo, PointsOk}
-use Rattle.turns.proofs.Given.{RightAt, theRecord, thePoints, thePattern, theRight}
+use Rattle.turns.proofs.Given.{RightAt, theRecord, thePoints, theSums, theRight}
 use Rattle.turns.proofs.Facts.{few, reservoirs-count, rights-count, right-is}
 
 module _ (R : RightAt) where
@@ -100,7 +101,7 @@ module _ (R : RightAt) where
         rows = λ k h. absurd (omega arith);
         percents = rw z (omega arith);
         known = λ h. absurd (omega arith);
-        whole = λ h. absurd (omega arith);
+        by-sums = λ h. absurd (omega arith);
       }
 
   pub percent-at : (k : ℕ) → k < thePoints R → getD (percents (theRight R)) k 0 ≡ returnPercent (R .rights) (R .place) k
@@ -116,27 +117,28 @@ module _ (R : RightAt) where
   percent-sum =
       sym (sumTo-list (percents (theRight R))) ∙ ap (λ (k : ℕ). sumTo k (λ j. getD (percents (theRight R)) j 0)) percents-count ∙ sumTo-same (thePoints R) _ _ (λ k h. percent-at k h)
 
+  -- the sums that its points share are those of the rules' pattern
+  sums-known : Returned (R .basin) (theRight R) → Sums (patternOf (R .basin) (theRight R)) (theSums R)
+  sums-known p = record {
+    good = all-at-place GoodPattern (R .basin .patterns) [] (R .setting .accepted .patterns-good) ((theRight R) .pattern) (p .pattern-in);
+    running = R .setting .patterns ((theRecord R) .pattern) (omega (arith, p .pattern-in, pattern-is)) ∙ ap (λ (k : ℕ). sumsOf (getD (R .basin .patterns) k [])) (sym pattern-is);
+  }
+
   some-points : Returned (R .basin) (theRight R) → PointsOk (R .patterns) (R .rights) (R .place) (thePoints R) ((theRecord R) .pattern)
-  some-points p =
-      let same : getD (R .basin .patterns) ((theRecord R) .pattern) [] ≡ thePattern R = R .setting .patterns _ (omega (arith, p .pattern-in, pattern-is)) in
-      let pat : patternOf (R .basin) (theRight R) ≡ thePattern R = ap (λ (k : ℕ). getD (R .basin .patterns) k []) pattern-is ∙ same in
-      record {
-        right-in = R .in-list;
-        few = omega (arith, p .few-points, points-count);
-        rows = λ k h. omega (arith, point-in k h, few (R .setting));
-        percents = omega (arith, percent-sum, p .whole);
-        known = λ h. omega (arith, p .pattern-in, pattern-is, R .setting .accepted .few-patterns);
-        whole = λ h. record { twelve = sym (ap length pat) ∙ p .pattern-length; hundred = sym (ap sum pat) ∙ p .pattern-whole };
-      }
+  some-points p = record {
+    right-in = R .in-list;
+    few = omega (arith, p .few-points, points-count);
+    rows = λ k h. omega (arith, point-in k h, few (R .setting));
+    percents = omega (arith, percent-sum, p .whole);
+    known = λ h. omega (arith, p .pattern-in, pattern-is, R .setting .accepted .few-patterns);
+    by-sums = λ h. (patternOf (R .basin) (theRight R), sums-known p);
+  }
 
   pub points-ok : PointsOk (R .patterns) (R .rights) (R .place) (thePoints R) ((theRecord R) .pattern)
   points-ok = by-points _ no-points some-points
 
-  -- the pattern that its (thePoints R) share is the rules'
-  pub pattern-same : 0 < thePoints R → patternOf (R .basin) (theRight R) ≡ thePattern R
-  pattern-same h = by-points (patternOf (R .basin) (theRight R) ≡ thePattern R)
-      (λ e. let z : thePoints R ≡ 0 = sym points-count ∙ ap length e in absurd (omega arith))
-      (λ p. ap (λ (k : ℕ). getD (R .basin .patterns) k []) pattern-is ∙ R .setting .patterns _ (omega (arith, p .pattern-in, pattern-is)))
+  pub sums-are : 0 < thePoints R → Sums (patternOf (R .basin) (theRight R)) (theSums R)
+  sums-are h = by-points (Sums (patternOf (R .basin) (theRight R)) (theSums R)) (λ e. let z : thePoints R ≡ 0 = sym points-count ∙ ap length e in absurd (omega arith)) sums-known
 
   -- ---- its reservoir
 

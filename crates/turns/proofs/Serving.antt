@@ -164,12 +164,12 @@ module _ (T : BeforeTurn) where
 
   -- ---- the grant
 
-  module _ (g : Staged (R .basin) (T .month) (R .place) r s) (v : RiverPart) (gave : RiverGave (R .stations) (R .table) (T .available) (T .short) (theKind R) (theRow R) (g .ask) v) (ev : v .part ≡ g .part) where
+  module _ (g : Staged (R .basin) (T .month) (R .place) r s) (v : RiverPart) (gave : RiverGave (R .stations) (R .table) (T .available) (T .short) (theKind R) (theRow R) (g .ask) v) (ev : v .part ≡ g .part) (deep : ℕ) where
     abbrev why : ReasonMade
     why = shortReason (theKind R) (v .reason)
 
     abbrev pub made : program.Grant
-    made = record { «from_river» = g .part; «from_storage» = g .drawn; reason = cond (ltb (g .part + g .drawn) (g .ask)) why Met }
+    made = record { «from_river» = g .part; «from_storage» = g .drawn; reason = cond (ltb (g .part + g .drawn) (g .ask)) why Met; deep = deep }
 
     why-is : (c : Bool) → ltb (g .part + g .drawn) (g .ask) ≡ c → (whyOf (cond c why Met) ≡ reasonNumber (reasonOf (R .basin) r s c)) × (namedBy (homeOf (R .basin) r) (cond c why Met) ≡ controlling (R .basin) r s (reasonOf (R .basin) r s c))
     unfolding reasonOf

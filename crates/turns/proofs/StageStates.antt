@@ -22,12 +22,12 @@ use Rattle.returns.specs.Returning.{partsIn, returnBy}
 use Rattle.turns.specs.Finish.{restOf}
 use Rattle.turns.specs.State.{storagesOf, marksOf, takenOf, shortOf, stateOf}
 use Rattle.grants.specs.Stages.{capacityIn, levelsTaken, poured, boardStored, drawnIn, boardDrawn, levelsReleased, homeRow}
-use Rattle.turns.proofs.Given.{RightAt, theRecord, theKind, theRow, theReservoir, thePoints, thePattern, theRight}
+use Rattle.turns.proofs.Given.{RightAt, theRecord, theKind, theRow, theReservoir, thePoints, theRight}
 use Rattle.turns.proofs.Facts.{path-is, reservoirs-count, rights-count, capacity-is, home-is, home-in}
 use Rattle.turns.proofs.RightFacts.{kind-is, row-is, reservoir-of, row-in, row-on, project-behind, storage-behind}
 use Rattle.turns.proofs.Places.{storage-at, taken-at, storages-set, shorts-set, taken-off, marks-off, places-same, storages-poured, taken-poured, marks-poured}
 use Rattle.turns.proofs.Demands.{path-of, state-storage}
-use Rattle.turns.proofs.ReturnParts.{parts-is, by-rules, pattern-either, parts-rows, returns-none}
+use Rattle.turns.proofs.ReturnParts.{parts-is, by-rules, parts-rows}
 
 state-path : (l l′ : List Level) (x x′ : List ℕ) (m m′ : List Bool) (y y′ : List ℕ) (z z′ : List Bool) → l ≡ l′ → x ≡ x′ → m ≡ m′ → y ≡ y′ → z ≡ z′
     → _≡_ {A = State} (record { levels = l; storages = x; marks = m; taken = y; short = z }) (record { levels = l′; storages = x′; marks = m′; taken = y′; short = z′ })
@@ -132,7 +132,7 @@ module _ (R : RightAt) where
   -- ---- the returns
 
   pub return-stage : (d : ℕ) (isShort : Bool) (f a f′ a′ : List ℕ) (sh sh′ : List Bool) (bd bd′ : List ℕ)
-      → levelsOf (rows (R .basin)) f′ a′ ≡ returnBy (R .table) (thePattern R) (partsIn (R .rights) (R .place) (restOf d ((theRecord R) .efficiency)) (thePoints R)) (levelsOf (rows (R .basin)) f a)
+      → levelsOf (rows (R .basin)) f′ a′ ≡ returnBy (R .table) (patternOf (R .basin) r) (partsIn (R .rights) (R .place) (restOf d ((theRecord R) .efficiency)) (thePoints R)) (levelsOf (rows (R .basin)) f a)
       → ((j : ℕ) → j < duesFrom → getD bd′ j 0 ≡ getD bd j 0) → sh′ ≡ cond isShort (set sh (theRow R) true) sh → 64 ≤ length sh
       → stateOf (R .basin) f′ a′ sh′ bd′ ≡ returnStage (r .kind) (R .basin) r d isShort (stateOf (R .basin) f a sh bd)
   unfolding returnStage stateOf
@@ -142,15 +142,11 @@ module _ (R : RightAt) where
       let pi = places-same (length (R .basin .rights)) bd bd′ (R .setting .accepted .few-rights) same in
       state-path _ _ _ _ _ _ _ _ _ _
       (e
-      ∙ by-rules R (thePattern R) (partsIn (R .rights) (R .place) rest (thePoints R)) (levelsOf (rows (R .basin)) f a) (parts-rows R rest)
-      ∙ pattern-either R (λ p qs. returnNow (R .basin .stations) p qs (levelsOf (rows (R .basin)) f a)) (λ p q. none-now p q) rest
+      ∙ by-rules R (patternOf (R .basin) r) (partsIn (R .rights) (R .place) rest (thePoints R)) (levelsOf (rows (R .basin)) f a) (parts-rows R rest)
       ∙ ap (λ (qs : List Part). returnNow (R .basin .stations) (patternOf (R .basin) r) qs (levelsOf (rows (R .basin)) f a)) (sym (parts-is R d)))
       (pl .0) (pl .1) (pi .2)
       (ap (shortOf (rows (R .basin))) m ∙ short-set isShort ∙ ap (λ (x : ℕ). cond isShort (set (shortOf (rows (R .basin)) sh) x true) (shortOf (rows (R .basin)) sh)) (sym (row-is R)))
     where
-      none-now : (p q : List ℕ) → returnNow (R .basin .stations) p [] (levelsOf (rows (R .basin)) f a) ≡ returnNow (R .basin .stations) q [] (levelsOf (rows (R .basin)) f a)
-      none-now p q = returns-none (R .basin) p (levelsOf (rows (R .basin)) f a) ∙ sym (returns-none (R .basin) q (levelsOf (rows (R .basin)) f a))
-
       short-set : (c : Bool) → shortOf (rows (R .basin)) (cond c (set sh (theRow R) true) sh) ≡ cond c (set (shortOf (rows (R .basin)) sh) (theRow R) true) (shortOf (rows (R .basin)) sh)
       short-set true = shorts-set (rows (R .basin)) sh (theRow R) (row-in R) (omega (arith, row-on R))
       short-set false = refl

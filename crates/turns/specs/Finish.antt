@@ -15,6 +15,7 @@ use Rattle.turns.specs.declared.serve.Share.{Share}
 use Rattle.rules.specs.Accepted.{mostAmount}
 use Rattle.places.specs.Board.{roomy, BoardOk}
 use Rattle.river.specs.Arrays.{RiverOk}
+use Rattle.returns.specs.Dues.{Sums}
 use Rattle.returns.specs.Returning.{PointsOk, Gave}
 
 -- what of a diversion d returns, at efficiency e
@@ -35,9 +36,9 @@ pub record CanFinish (t : List ℕ) (pa : List (List ℕ)) (ri : List ℕ) (i : 
   pub marks : 64 ≤ length sh
 
 pub record Finished (t : List ℕ) (pa : List (List ℕ)) (ri : List ℕ) (i : ℕ) (r : RightRecord) (x : Share) (f a : List ℕ) (sh : List Bool) (bd f′ a′ : List ℕ) (sh′ : List Bool) (bd′ : List ℕ) (g : Grant) : Type 0 where
-  pub gave : Gave t (getD pa (r .pattern) []) ri i (r .points) (restOf (given x) (r .efficiency)) f a bd f′ a′ bd′
+  pub gave : (pattern : List ℕ) → (0 < r .points → Sums pattern (getD pa (r .pattern) [])) → Gave t pattern ri i (r .points) (restOf (given x) (r .efficiency)) f a bd f′ a′ bd′ (g .deep)
   pub marked : sh′ ≡ cond (ltb (given x) (x .demand)) (set sh (r .row) true) sh
-  pub grant : g ≡ record { «from_river» = x .«from_river»; «from_storage» = x .«from_storage»; reason = cond (ltb (given x) (x .demand)) (x .reason) Met }
+  pub grant : g ≡ record { «from_river» = x .«from_river»; «from_storage» = x .«from_storage»; reason = cond (ltb (given x) (x .demand)) (x .reason) Met; deep = g .deep }
 
 -- a project right is short of storage, whatever the river was short of
 abbrev pub shortReason : Kind → Reason → Reason

@@ -9,7 +9,7 @@ use Rattle.places.specs.Board.{monthAt, dueAt, BoardOk}
 use Rattle.places.specs.Report.{fromRiverPlace, fromStoragePlace, reasonPlace, stationPlace, linesEnd}
 use Rattle.rules.specs.Basin.{Basin, rows}
 use Rattle.rules.specs.Turn.{State, Grant, numberAt, Turn}
-use Rattle.rules.specs.Month.{turns, afterTurns, grantAt, returnsAt, reasonNumber, shortCount}
+use Rattle.rules.specs.Month.{turns, afterTurns, grantAt, returnsAt, deepOf, reasonNumber, shortCount}
 use Rattle.records.specs.Records.{stationsOf, rowsOf, reservoirCount, rightCount, rightOf}
 use Rattle.grants.specs.declared.grants.Grant as program
 use Rattle.grants.specs.declared.grants.Reason.{Reason}
@@ -47,6 +47,7 @@ pub record LineServed (b : Basin) (ri : List ℕ) (i m : ℕ) (f a : List ℕ) (
   pub turned : Turned b ri i m f a sh bd f′ a′ sh′ bd′ made
   pub written : rp′ ≡ lineOf rp i made (namedBy (homeOf b (rightOf ri i)) (made .reason))
   pub short : c .shorts ≡ shortOne made
+  pub deep : c .deep ≡ made .deep
 
 -- ---- the lines of the first k rights
 
@@ -81,6 +82,7 @@ pub record ServedTo (b : Basin) (m k : ℕ) (f a : List ℕ) (sh : List Bool) (b
   pub dues : (w j : ℕ) → j < 11
       → dueAt bd′ w (suc j) + returnsAt b (turns b m k (drop k (b .rights)) (stateOf b f′ a′ sh′ bd′)) w (suc j) ≡ dueAt bd w (suc j) + returnsAt b (turnsFrom b m (stateOf b f a sh bd)) w (suc j)
   pub shorts : c .shorts + shortCount (turns b m k (drop k (b .rights)) (stateOf b f′ a′ sh′ bd′)) ≡ shortCount (turnsFrom b m (stateOf b f a sh bd))
+  pub deep : c .deep + deepOf b (turns b m k (drop k (b .rights)) (stateOf b f′ a′ sh′ bd′)) ≡ deepOf b (turnsFrom b m (stateOf b f a sh bd))
   pub month : monthAt bd′ ≡ monthAt bd
   pub lines : LinesTo (turnsFrom b m (stateOf b f a sh bd)) k rp rp′
   pub size : length bd′ ≡ length bd
@@ -90,6 +92,7 @@ pub record ServedTo (b : Basin) (m k : ℕ) (f a : List ℕ) (sh : List Bool) (b
   pub within : (w : ℕ) → w < 64 → getD a′ w 0 ≤ getD f′ w 0
   pub grown : (w : ℕ) → w < 64 → getD f′ w 0 ≤ getD f w 0 + k * (6 * mostAmount)
   pub filled : (j : ℕ) → getD bd′ j 0 ≤ getD bd j 0 + k * (6 * mostAmount)
+  pub deep-most : c .deep ≤ k * (6 * mostAmount)
   pub capped : Within b bd′
   pub kept : Kept b bd bd′
 
@@ -98,6 +101,7 @@ pub record Served (b : Basin) (m : ℕ) (f a : List ℕ) (sh : List Bool) (bd rp
   pub state : stateOf b f′ a′ sh′ bd′ ≡ afterTurns (turnsFrom b m (stateOf b f a sh bd)) (stateOf b f a sh bd)
   pub dues : (w j : ℕ) → j < 11 → dueAt bd′ w (suc j) ≡ dueAt bd w (suc j) + returnsAt b (turnsFrom b m (stateOf b f a sh bd)) w (suc j)
   pub shorts : c .shorts ≡ shortCount (turnsFrom b m (stateOf b f a sh bd))
+  pub deep : c .deep ≡ deepOf b (turnsFrom b m (stateOf b f a sh bd))
   pub month : monthAt bd′ ≡ monthAt bd
   pub lines : LinesTo (turnsFrom b m (stateOf b f a sh bd)) (length (b .rights)) rp rp′
   pub size : length bd′ ≡ length bd

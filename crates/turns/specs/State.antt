@@ -8,11 +8,11 @@ use Rattle.general.specs.Tables.{tab}
 use Rattle.general.specs.Tests.{bit}
 use Rattle.places.specs.Board.{monthAt, storageAt, marksAt, takenAt, dueAt, BoardOk}
 use Rattle.rules.specs.Basin.{Basin, Right, rows, reservoirAt, rightAt, patternOf}
-use Rattle.rules.specs.Returns.{partsOf, returnedAt}
+use Rattle.rules.specs.Returns.{partsOf, returnedAt, lostDeep}
 use Rattle.rules.specs.Turn.{State, Grant, granted, Turn, turn}
 use Rattle.rules.specs.Month.{reasonNumber}
 use Rattle.rules.specs.Accepted.{Accepted, mostAmount}
-use Rattle.records.specs.Records.{stationsOf, reservoirsOf, rightsOf, rightCount, rightOf}
+use Rattle.records.specs.Records.{stationsOf, reservoirsOf, sumsOf, rightsOf, rightCount, rightOf}
 use Rattle.records.specs.Table.{tableOf}
 use Rattle.river.specs.Arrays.{levelsOf, RiverOk}
 use Rattle.grants.specs.declared.grants.Grant.{Grant as GrantMade}
@@ -43,14 +43,14 @@ stateOf b f a sh bd = record {
   short = shortOf (rows b) sh;
 }
 
--- ---- the basin that the parts of a file describe: bodies st, rs and ri, the table t of rows below, the decoded patterns pa
+-- ---- the basin that the parts of a file describe: bodies st, rs and ri, the table t of rows below, the running sums pa of its patterns
 
 pub record Setting (b : Basin) (st t rs : List ℕ) (pa : List (List ℕ)) (ri : List ℕ) : Type 0 where
   pub accepted : Accepted b
   pub stations : b .stations ≡ stationsOf st
   pub table : t ≡ tableOf (b .stations)
   pub reservoirs : b .reservoirs ≡ reservoirsOf rs
-  pub patterns : (k : ℕ) → k < length (b .patterns) → getD (b .patterns) k [] ≡ getD pa k []
+  pub patterns : (k : ℕ) → k < length (b .patterns) → getD pa k [] ≡ sumsOf (getD (b .patterns) k [])
   pub rights : b .rights ≡ rightsOf ri
 
 -- storages within capacities and water taken within limits, at the board
@@ -107,6 +107,7 @@ pub record Turned (b : Basin) (ri : List ℕ) (i m : ℕ) (f a : List ℕ) (sh :
   pub tells : Tells ((turn b m i (rightOf ri i) (stateOf b f a sh bd)) .grant) (homeOf b (rightOf ri i)) made
   pub dues : (w k : ℕ) → k < 11
       → dueAt bd′ w (suc k) ≡ dueAt bd w (suc k) + returnedAt (patternOf b (rightOf ri i)) w (suc k) (partsOf ((rightOf ri i) .kind) (rightOf ri i) (granted ((turn b m i (rightOf ri i) (stateOf b f a sh bd)) .grant)))
+  pub deep : made .deep ≡ lostDeep (patternOf b (rightOf ri i)) (partsOf ((rightOf ri i) .kind) (rightOf ri i) (granted ((turn b m i (rightOf ri i) (stateOf b f a sh bd)) .grant)))
   pub month : monthAt bd′ ≡ monthAt bd
   pub size : length bd′ ≡ length bd
   pub flow-size : length f′ ≡ length f
@@ -115,4 +116,5 @@ pub record Turned (b : Basin) (ri : List ℕ) (i m : ℕ) (f a : List ℕ) (sh :
   pub grown : (w : ℕ) → w < 64 → getD f′ w 0 ≤ getD f w 0 + 6 * mostAmount
   pub within : (w : ℕ) → w < 64 → getD a′ w 0 ≤ getD f′ w 0
   pub filled : (j : ℕ) → getD bd′ j 0 ≤ getD bd j 0 + 6 * mostAmount
+  pub deep-most : made .deep ≤ 6 * mostAmount
   pub kept : Kept b bd bd′

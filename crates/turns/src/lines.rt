@@ -22,9 +22,10 @@ use places::report::line_place;
 use records::reservoirs::reservoir_at;
 use records::rights::right_at;
 
-// What the service of rights amounts to: how many are short.
+// What the service of rights amounts to: how many are short, and what goes deep.
 pub struct Totals {
     pub shorts: usize,
+    pub deep: u64,
 }
 
 // 01's number for a reason.
@@ -111,9 +112,11 @@ fn serve_line(
         board,
     );
     let reason = grant.reason;
+    let deep = grant.deep;
     let station = name(stations, reservoirs, index(right.reservoir), reason);
     Totals {
         shorts: put_line(report, i, grant, station),
+        deep,
     }
 }
 
@@ -136,6 +139,7 @@ pub fn serve_all(
 {
     let n = rights.len() / 76;
     let mut shorts = 0;
+    let mut deep: u64 = 0;
     for i in 0..n {
         let turn = Turn { right: i, month: m };
         let line = serve_line(
@@ -152,6 +156,7 @@ pub fn serve_all(
             report,
         );
         shorts += line.shorts;
+        deep += line.deep;
     }
-    Totals { shorts }
+    Totals { shorts, deep }
 }

@@ -69,7 +69,7 @@ fn finish(
         pattern: index(right.pattern),
         amount: rest,
     };
-    give_returns(below, patterns, rights, back, flow, available, board);
+    let deep = give_returns(below, patterns, rights, back, flow, available, board);
     if d < share.demand {
         short[row] = true;
         let reason = share.reason;
@@ -77,12 +77,14 @@ fn finish(
             from_river: part,
             from_storage: stored,
             reason,
+            deep,
         };
     }
     Grant {
         from_river: part,
         from_storage: stored,
         reason: Reason::Met,
+        deep,
     }
 }
 

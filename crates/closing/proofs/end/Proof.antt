@@ -1,10 +1,11 @@
 -- `closing::end` meets its contract. Assumes nothing.
+use native.Mathlib.Omega.{arith}
 use borrow.Author.Needs.{needs}
+use denote.Ref.{now}
+use lib.ListN.{length-set}
+use Rattle.closing.proofs.Rows.{ended-of}
 use Rattle.closing.proofs.end.Statement.{statement}
 use Rattle.closing.proofs.end.Tie as tie
-use native.Mathlib.Omega.{arith}
-use denote.Ref.{now}
-use Rattle.closing.proofs.Rows.{ended-of}
 
 slice-read-m : tie.Need-slice-read-m
 slice-read-m c = omega (arith, c .before .before .before .before .pre .size)
@@ -24,22 +25,34 @@ evaporate-requires c κs =
     let told = c .before .before .before .before .before .before .put-rows .ensures in
     record { few = p .few; in-year = omega (arith, p .in-year, c .before .before .before .in-year .ensures); size = p .size; places = omega (arith, p .places, told .size) }
 
+deep-place-requires : tie.Need-deep-place-requires
+deep-place-requires c κs =
+    let p = c .before .before .before .before .before .before .before .before .before .before .before .before .before .before .before .before .before .pre in
+    (p .tell .few-rights, p .tell .few, p .few)
+
+mul-report : tie.Need-mul-report
+mul-report c = search needs
+
+slice-write-report : tie.Need-slice-write-report
+slice-write-report c = omega (arith, c .before .before .before .before .before .before .before .before .before .before .before .before .before .before .before .before .before .before .pre .places, c .deep-place .ensures, c .before .before .before .before .before .evaporate .ensures .report-size, c .before .before .before .before .before .before .before .before .before .before .before .before .put-rows .ensures .size)
+
 next-month-requires : tie.Need-next-month-requires
-next-month-requires c κs = c .before .before .before .before .before .before .before .before .before .before .before .before .before .before .before .before .before .pre .in-year
+next-month-requires c κs = c .before .before .before .before .before .before .before .before .before .before .before .before .before .before .before .before .before .before .pre .in-year
 
 slice-write-board : tie.Need-slice-write-board
-slice-write-board c = omega (arith, c .before .before .before .before .before .before .before .before .before .before .before .before .before .before .before .before .before .before .pre .size, c .before .before .before .before .before .evaporate .ensures .size)
+slice-write-board c = omega (arith, c .before .before .before .before .before .before .before .before .before .before .before .before .before .before .before .before .before .before .before .pre .size, c .before .before .before .before .before .before .evaporate .ensures .size)
 
 same-length : tie.Need-same-length
 same-length c = search needs
 
 same-length-2 : tie.Need-same-length-2
-same-length-2 c = search needs
+same-length-2 c = simp length-set (omega (arith, c .before .before .before .before .before .before .evaporate .ensures .report-size, c .before .before .before .before .before .before .before .before .before .before .before .before .before .put-rows .ensures .size))
 
 returns : tie.Need-returns
 returns c =
-    let s = c .before .before .before .before .before .before .before .before .before .before .before .before .before .before .before .before .before .before .args in
-    ended-of (now (s .reservoirs)) (s .n) (s .rows) (now (s .flow)) (now (s .available)) (now (s .board)) (now (s .report)) _ _ _ _ _ (c .before .before .before .before .before .before .before .before .before .before .before .before .put-rows .ensures) (c .before .before .before .before .before .before .before .before .before .in-year .ensures) (c .before .before .before .before .before .before .rows-end .ensures) (c .before .before .before .before .before .evaporate .ensures) (c .next-month .ensures)
+    let s = c .before .before .before .before .before .before .before .before .before .before .before .before .before .before .before .before .before .before .before .args in
+    ended-of (now (s .reservoirs)) (s .n) (s .rows) (now (s .flow)) (now (s .available)) (s .deep) (now (s .board)) (now (s .report)) _ _ _ _ _
+    (c .before .before .before .before .before .before .before .before .before .before .before .before .before .put-rows .ensures) (c .before .before .before .before .before .before .before .before .before .before .in-year .ensures) (c .before .before .before .before .before .before .before .rows-end .ensures) (c .before .before .before .before .before .before .evaporate .ensures) (c .before .deep-place .ensures) (c .next-month .ensures)
 
 pub end-spec : {M : Type 1} → statement M
 end-spec =
@@ -50,6 +63,9 @@ end-spec =
     in-year-requires
     rows-end-requires
     evaporate-requires
+    deep-place-requires
+    mul-report
+    slice-write-report
     next-month-requires
     slice-write-board
     same-length

@@ -1,11 +1,11 @@
 -- `filecheck::patterns::check_patterns` meets its contract. The loop's invariant: the patterns not yet looked at give the verdict. Assumes nothing.
-use mathlib.Core.Path.{_≡_, refl, sym, _∙_}
+use mathlib.Core.Path.{_≡_, refl, _∙_}
 use Prim.Native.Nat.{_-_, _≤_}
 use native.Mathlib.Omega.{arith}
 use borrow.Author.Needs.{needs}
-use borrow.Author.Tests.{eq-eqb, ne-eqb}
 use denote.Ref.{now}
 use Rattle.general.specs.Sums.{sum}
+use Rattle.general.proofs.Tests.{leb-yes, leb-no}
 use Rattle.rules.specs.declared.Verdict.the-variants.{Accepted, Pattern}
 use Rattle.records.specs.Records.{patternCount, patternOf}
 use Rattle.filerules.specs.FileRules.{patternOk}
@@ -29,7 +29,7 @@ percent-sum-requires c κs = search needs
 
 returns : tie.Need-returns Inv-loop μ-loop
 unfolding patternOk
-returns c = let s = now (c .before .before .before .before .before .args .patterns) in let p = c .before .before .before .loop .p in verdict-here Pattern (patternOk s) _ p (omega arith) (ne-eqb (sum (patternOf s p)) 100 (λ e. c .if1 .taken (c .before .percent-sum .ensures ∙ e))) ∙ c .before .before .before .loop .inv .2
+returns c = let s = now (c .before .before .before .before .before .args .patterns) in let p = c .before .before .before .loop .p in verdict-here Pattern (patternOk s) _ p (omega arith) (leb-no (sum (patternOf s p)) 100 (omega (arith, c .if1 .taken, c .before .percent-sum .ensures))) ∙ c .before .before .before .loop .inv .2
 
 add-p : tie.Need-add-p Inv-loop μ-loop
 add-p c = search needs
@@ -39,7 +39,7 @@ loop-less c = search needs
 
 loop-again : tie.Need-loop-again Inv-loop μ-loop
 unfolding patternOk
-loop-again c = let s = now (c .before .before .before .before .before .args .patterns) in let p = c .before .before .before .loop .p in (omega arith, omega arith, verdict-on Pattern (patternOk s) _ p (omega arith) (eq-eqb (sum (patternOf s p)) 100 (sym (c .before .percent-sum .ensures) ∙ c .if1 .left)) ∙ c .before .before .before .loop .inv .2)
+loop-again c = let s = now (c .before .before .before .before .before .args .patterns) in let p = c .before .before .before .loop .p in (omega arith, omega arith, verdict-on Pattern (patternOk s) _ p (omega arith) (leb-yes (sum (patternOf s p)) 100 (omega (arith, c .if1 .left, c .before .percent-sum .ensures))) ∙ c .before .before .before .loop .inv .2)
 
 returns-2 : tie.Need-returns-2 Inv-loop μ-loop
 returns-2 c = verdict-done Pattern (patternOk (now (c .before .before .before .args .patterns))) _ (c .before .loop .p) (omega arith) ∙ c .before .loop .inv .2

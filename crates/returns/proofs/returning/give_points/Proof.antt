@@ -1,39 +1,40 @@
 -- `returns::returning::give_points` meets its contract. Assumes nothing.
 use Prim.Native.Nat.{ℕ, _+_, _-_, _*_, _/_, _≤_, _<_}
 use mathlib.Core.Path.{_≡_, refl, ap, _∙_, subst}
-use mathlib.Core.List.{[]}
+use mathlib.Core.List.{List}
 use native.Mathlib.Omega.{arith}
 use borrow.Author.Needs.{needs}
-use lib.ListN.{getD}
 use denote.Ref.{now}
 use Rattle.returns.proofs.returning.give_points.Statement.{statement}
 use Rattle.returns.proofs.returning.give_points.Tie as tie
-use native.Mathlib.Nat.{mul-le-mul}
 use Rattle.rules.specs.Returns.{Part}
+use Rattle.records.specs.Records.{returnRow}
+use Rattle.returns.specs.Dues.{Sums}
 use Rattle.returns.specs.Returning.{pointsUpTo, partIn, Gave}
-use Rattle.returns.proofs.Points.{points-none, points-more, points-le, amount-is, part-is, can-return, gave-none, gave-more, river-after}
+use Rattle.returns.proofs.Shares.{split-le}
+use Rattle.returns.proofs.Points.{points-none, points-more, percents-in, next-small, amount-is, part-is, can-return, gave-none, gave-more, river-after}
 
 abbrev Inv-loop : tie.InvT-loop
-Inv-loop below rights flow₀ available₀ board₀ i points which rest pattern c₀ before₀ k₀ flow available board c before k = (k ≤ points) × (c ≡ pointsUpTo rights i k) × (before ≡ rest * c / 100) × Gave below pattern rights i k rest flow₀ available₀ board₀ flow available board
+Inv-loop below rights flow₀ available₀ board₀ i points which rest sums c₀ before₀ deep₀ k₀ flow available board c before deep k =
+    (k ≤ points) × (c ≡ pointsUpTo rights i k) × (before ≡ rest * c / 100) × ((pattern : List ℕ) → Sums pattern sums → Gave below pattern rights i k rest flow₀ available₀ board₀ flow available board deep)
 
 abbrev μ-loop : tie.MeasureT-loop
-μ-loop below rights flow₀ available₀ board₀ i points which rest pattern c₀ before₀ k₀ flow available board c before k = points - k
+μ-loop below rights flow₀ available₀ board₀ i points which rest sums c₀ before₀ deep₀ k₀ flow available board c before deep k = points - k
 
-mul-pattern : tie.Need-mul-pattern Inv-loop μ-loop
-mul-pattern c =
+mul-sums : tie.Need-mul-sums Inv-loop μ-loop
+mul-sums c =
     let b = c .before .before in
     omega (arith, b .pre .0 .points-ok .known (b .pre .1))
 
-array-copy-out-pattern : tie.Need-array-copy-out-pattern Inv-loop μ-loop
-array-copy-out-pattern c =
+array-copy-out-sums : tie.Need-array-copy-out-sums Inv-loop μ-loop
+array-copy-out-sums c =
     let b = c .before .before in
     omega (arith, b .pre .0 .points-ok .known (b .pre .1))
 
 loop-holds : tie.Need-loop-holds Inv-loop μ-loop
 loop-holds c =
     let b = c .before .before .before in
-    let pt = getD (b .args .t2) (b .args .back .pattern) [] in
-    (omega arith, points-none (now (b .args .rights)) (b .args .back .right), omega arith, gave-none (now (b .args .below)) pt (now (b .args .rights)) (b .args .back .right) (b .args .back .amount) (now (b .args .flow)) (now (b .args .available)) (now (b .args .board)) (b .pre .0 .river .within))
+    (omega arith, points-none (now (b .args .rights)) (b .args .back .right), omega arith, λ pattern s. gave-none _ _ _ _ _ _ _ _ (b .pre .0 .river .within))
 
 return-percent-requires : tie.Need-return-percent-requires Inv-loop μ-loop
 return-percent-requires c κs =
@@ -46,21 +47,16 @@ wide8-requires c κs = search needs
 add-next : tie.Need-add-next Inv-loop μ-loop
 add-next c =
     let b = c .before .before .before .before .before .before .before in
+    let w = c in
     let l = c .before .before .before .loop in
-    let ri = now (b .args .rights) in
-    omega (arith, l .inv .1, c .wide8 .ensures .1, points-le ri (b .args .back .right) (l .k) (b .args .back .points) (l .inv .0), b .pre .0 .points-ok .percents)
+    omega (arith, percents-in (b .pre .0) (l .k) (l .c) (w .wide8 .result) (w .before .before .loop-test .taken) (l .inv .1) (w .wide8 .ensures .0 ∙ w .before .return-percent .ensures))
 
 mul-next : tie.Need-mul-next Inv-loop μ-loop
 mul-next c =
     let b = c .before .before .before .before .before .before .before in
-    let i = b .args .back .right in
-    let n = b .args .back .points in
+    let w = c in
     let l = c .before .before .before .loop in
-    let ri = now (b .args .rights) in
-    let m = points-more ri i (l .k) in
-    let z = points-le ri i (l .k + 1) n (omega arith) in
-    let s : l .c + c .wide8 .result ≤ 100 = omega (arith, l .inv .1, c .wide8 .ensures .0, c .before .return-percent .ensures, b .pre .0 .points-ok .percents) in
-    omega (arith, mul-le-mul (b .pre .0 .small) s)
+    omega (arith, next-small (b .pre .0) (l .k) (l .c) (w .wide8 .result) (w .before .before .loop-test .taken) (l .inv .1) (w .wide8 .ensures .0 ∙ w .before .return-percent .ensures))
 
 return-row-requires : tie.Need-return-row-requires Inv-loop μ-loop
 return-row-requires c κs =
@@ -78,47 +74,54 @@ sub-split c =
 split-requires : tie.Need-split-requires Inv-loop μ-loop
 split-requires c κs =
     let b = c .before .before .before .before .before .before .before .before .before .before in
-    let i = b .args .back .right in
-    let n = b .args .back .points in
+    let o = b .pre .0 in
+    let w = c .before .before .before in
     let l = c .before .before .before .before .before .before .loop in
-    let ri = now (b .args .rights) in
-    let m = points-more ri i (l .k) in
-    let z = points-le ri i (l .k + 1) n (omega arith) in
-    let s : l .c + c .before .before .before .wide8 .result ≤ 100 = omega (arith, l .inv .1, c .before .before .before .wide8 .ensures .0, c .before .before .before .before .return-percent .ensures, b .pre .0 .points-ok .percents) in
-    let e : c .before .index .result < 64 = omega (arith, c .before .index .ensures .0, c .before .before .return-row .ensures, b .pre .0 .points-ok .rows (l .k) (omega arith)) in (
-      e,
+    let sm = o .points-ok .by-sums (b .pre .1) in
+    let g = l .inv .3 (sm .0) (sm .1) in
+    let r = c .before in
+    let row-in : r .index .result < 64 = omega (arith, r .index .ensures .0, r .before .return-row .ensures, o .points-ok .rows (l .k) (omega arith)) in (
+      row-in,
       record {
-        whole = b .pre .0 .points-ok .whole (b .pre .1);
-        small = omega (arith, mul-le-mul (b .pre .0 .small) s);
-        on = omega (arith, l .inv .3 .size, b .pre .0 .board .size);
-        dues-roomy = record { room = λ j. omega (arith, l .inv .3 .filled j, b .pre .0 .board .room .room j, b .pre .0 .points-ok .few) };
+        pattern = sm .0;
+        by-sums = sm .1;
+        small = omega (arith, next-small o (l .k) (l .c) (w .wide8 .result) (w .before .before .loop-test .taken) (l .inv .1) (w .wide8 .ensures .0 ∙ w .before .return-percent .ensures));
+        on = omega (arith, g .size, o .board .size);
+        dues-roomy = record { room = λ j. omega (arith, g .filled j, o .board .room .room j, o .points-ok .few) };
       },
     )
 
 give-share-requires : tie.Need-give-share-requires Inv-loop μ-loop
 give-share-requires c κs =
     let b = c .before .before .before .before .before .before .before .before .before .before .before .before .before .before .before in
-    let i = b .args .back .right in
-    let n = b .args .back .points in
-    let rest = b .args .back .amount in
+    let o = b .pre .0 in
+    let w = c .before .before .before .before .before .before .before .before in
     let l = c .before .before .before .before .before .before .before .before .before .before .before .loop in
-    let ri = now (b .args .rights) in
-    let t = now (b .args .below) in
-    let pt = getD (b .args .t2) (b .args .back .pattern) [] in
-    let m = points-more ri i (l .k) in
-    let z = points-le ri i (l .k + 1) n (omega arith) in
-    let s : l .c + c .before .before .before .before .before .before .before .before .wide8 .result ≤ 100 = omega (arith, l .inv .1, c .before .before .before .before .before .before .before .before .wide8 .ensures .0, c .before .before .before .before .before .before .before .before .before .return-percent .ensures, b .pre .0 .points-ok .percents) in
-    can-return t (l .flow) (l .available) (c .before .before .before .before .split .result) (c .before .before .before .before .before .before .index .result)
-    (river-after t pt ri i rest (now (b .args .flow)) (now (b .args .available)) (now (b .args .board)) (l .k) (l .flow) (l .available) (l .board) (l .inv .3) (omega (arith, b .pre .0 .points-ok .few)) (b .pre .0 .river))
-    (omega (arith, c .before .before .before .before .before .before .index .ensures .0, c .before .before .before .before .before .before .before .return-row .ensures, b .pre .0 .points-ok .rows (l .k) (omega arith)))
-    (omega (arith, c .before .before .before .before .split .ensures .1, mul-le-mul (b .pre .0 .small) s))
+    let sm = o .points-ok .by-sums (b .pre .1) in
+    let r = c .before .before .before .before .before .before in
+    let x = c .before .before .before .before .split in
+    can-return (now (b .args .below)) (l .flow) (l .available) (x .result .«at_once») (r .index .result)
+    (river-after _ _ _ _ _ _ _ _ (l .k) (l .flow) (l .available) (l .board) (l .deep) (l .inv .3 (sm .0) (sm .1)) (omega (arith, o .points-ok .few)) (o .river))
+    (omega (arith, r .index .ensures .0, r .before .return-row .ensures, o .points-ok .rows (l .k) (omega arith)))
+    (omega (arith, split-le _ _ _ _ _ (x .result) (sm .1 .good .sum-most) (x .ensures (sm .0) (sm .1)) .0, next-small o (l .k) (l .c) (w .wide8 .result) (w .before .before .loop-test .taken) (l .inv .1) (w .wide8 .ensures .0 ∙ w .before .return-percent .ensures)))
+
+add-deep : tie.Need-add-deep Inv-loop μ-loop
+add-deep c =
+    let b = c .before .before .before .before .before .before .before .before .before .before .before .before .before .before .before .before .before in
+    let o = b .pre .0 in
+    let w = c .before .before .before .before .before .before .before .before .before .before in
+    let l = c .before .before .before .before .before .before .before .before .before .before .before .before .before .loop in
+    let sm = o .points-ok .by-sums (b .pre .1) in
+    let x = c .before .before .before .before .before .before .split in
+    let x-le = split-le _ _ _ _ _ (x .result) (sm .1 .good .sum-most) (x .ensures (sm .0) (sm .1)) in
+    omega (arith, l .inv .3 (sm .0) (sm .1) .lost-most, o .points-ok .few, x-le .1, next-small o (l .k) (l .c) (w .wide8 .result) (w .before .before .loop-test .taken) (l .inv .1) (w .wide8 .ensures .0 ∙ w .before .return-percent .ensures))
 
 add-c : tie.Need-add-c Inv-loop μ-loop
 add-c c =
-    let b = c .before .before .before .before .before .before .before .before .before .before .before .before .before .before .before .before in
-    let l = c .before .before .before .before .before .before .before .before .before .before .before .before .loop in
-    let ri = now (b .args .rights) in
-    omega (arith, l .inv .1, c .before .before .before .before .before .before .before .before .before .wide8 .ensures .1, points-le ri (b .args .back .right) (l .k) (b .args .back .points) (l .inv .0), b .pre .0 .points-ok .percents)
+    let b = c .before .before .before .before .before .before .before .before .before .before .before .before .before .before .before .before .before in
+    let w = c .before .before .before .before .before .before .before .before .before .before in
+    let l = c .before .before .before .before .before .before .before .before .before .before .before .before .before .loop in
+    omega (arith, percents-in (b .pre .0) (l .k) (l .c) (w .wide8 .result) (w .before .before .loop-test .taken) (l .inv .1) (w .wide8 .ensures .0 ∙ w .before .return-percent .ensures))
 
 add-k : tie.Need-add-k Inv-loop μ-loop
 add-k c = search needs
@@ -128,43 +131,48 @@ loop-less c = search needs
 
 loop-again : tie.Need-loop-again Inv-loop μ-loop
 loop-again c =
-    let b = c .before .before .before .before .before .before .before .before .before .before .before .before .before .before .before .before in
+    let b = c .before .before .before .before .before .before .before .before .before .before .before .before .before .before .before .before .before in
+    let o = b .pre .0 in
     let i = b .args .back .right in
-    let n = b .args .back .points in
     let rest = b .args .back .amount in
-    let l = c .before .before .before .before .before .before .before .before .before .before .before .before .loop in
     let ri = now (b .args .rights) in
-    let t = now (b .args .below) in
-    let pt = getD (b .args .t2) (b .args .back .pattern) [] in
-    let m = points-more ri i (l .k) in
-    let z = points-le ri i (l .k + 1) n (omega arith) in
-    let p = c .before .before .before .before .before .before .before .before .before .wide8 .result in
-    let pe : p ≡ Rattle.records.specs.Records.returnPercent ri i (l .k) = c .before .before .before .before .before .before .before .before .before .wide8 .ensures .0 ∙ c .before .before .before .before .before .before .before .before .before .before .return-percent .ensures in
-    let s : l .c + p ≤ 100 = omega (arith, l .inv .1, b .pre .0 .points-ok .percents) in
-    let row = c .before .before .before .before .before .before .before .index .result in
-    let re : row ≡ Rattle.records.specs.Records.returnRow ri i (l .k) = c .before .before .before .before .before .before .before .index .ensures .0 ∙ c .before .before .before .before .before .before .before .before .return-row .ensures in
-    let am : rest * (l .c + p) / 100 - l .before ≡ (partIn ri i rest (l .k)) .amount = ap (λ (x : ℕ). rest * (l .c + p) / 100 - x) (l .inv .2) ∙ amount-is ri i rest (l .k) (l .c) p (l .inv .1) pe in
-    let q : Part = record { row = row; amount = rest * (l .c + p) / 100 - l .before } in (
+    let w = c .before .before .before .before .before .before .before .before .before .before in
+    let l = c .before .before .before .before .before .before .before .before .before .before .before .before .before .loop in
+    let p = w .wide8 .result in
+    let pe = w .wide8 .ensures .0 ∙ w .before .return-percent .ensures in
+    let on = w .before .before .loop-test .taken in
+    let r = c .before .before .before .before .before .before .before .before in
+    let row = r .index .result in
+    let re : row ≡ returnRow ri i (l .k) = r .index .ensures .0 ∙ r .before .return-row .ensures in
+    let amount : ℕ = rest * (l .c + p) / 100 - l .before in
+    let ae : amount ≡ (partIn ri i rest (l .k)) .amount = ap (λ (y : ℕ). rest * (l .c + p) / 100 - y) (l .inv .2) ∙ amount-is ri i rest (l .k) (l .c) p (l .inv .1) pe in
+    let q : Part = record { row = row; amount = amount } in
+    let x = c .before .before .before .before .before .before .split in (
       omega arith,
-      omega (arith, l .inv .1),
+      omega (arith, l .inv .1, pe, points-more ri i (l .k)),
       refl,
-      gave-more t pt ri i rest (now (b .args .flow)) (now (b .args .available)) (now (b .args .board)) (l .k) (l .flow) (l .available) (l .board) (l .inv .3) (omega (arith, b .pre .0 .points-ok .few))
-          q (c .before .before .before .before .before .split .result) 0 _ _ _ (part-is ri i rest (l .k) row (rest * (l .c + p) / 100 - l .before) re am)
-          (b .pre .0 .points-ok .whole (b .pre .1) .hundred)
-          (omega (arith, b .pre .0 .points-ok .rows (l .k) (omega arith)))
-          (omega (arith, mul-le-mul (b .pre .0 .small) s))
-          (c .before .before .before .before .before .split .ensures .0) (c .before .before .before .before .before .split .ensures .2) (c .give-share .ensures),
+      λ pattern s. gave-more (now (b .args .below)) pattern ri i rest (now (b .args .flow)) (now (b .args .available)) (now (b .args .board))
+          (l .k) (l .flow) (l .available) (l .board) (l .deep) (l .inv .3 pattern s) (omega (arith, o .points-ok .few))
+          q (x .result) _ _ _ (part-is ri i rest (l .k) row amount re ae)
+          (s .good .sum-most)
+          (omega (arith, re, o .points-ok .rows (l .k) (omega (arith, on))))
+          (omega (arith, next-small o (l .k) (l .c) p on (l .inv .1) pe))
+          (x .ensures pattern s)
+          (c .before .give-share .ensures),
     )
 
 same-length : tie.Need-same-length Inv-loop μ-loop
-same-length c = c .before .loop .inv .3 .size
+same-length c =
+    let b = c .before .before .before .before .before in
+    let sm = b .pre .0 .points-ok .by-sums (b .pre .1) in
+    c .before .loop .inv .3 (sm .0) (sm .1) .size
 
 returns : tie.Need-returns Inv-loop μ-loop
 returns c =
     let b = c .before .before .before .before .before in
     let l = c .before .loop in
-    let pt = getD (b .args .t2) (b .args .back .pattern) [] in
-    subst (λ (k : ℕ). Gave (now (b .args .below)) pt (now (b .args .rights)) (b .args .back .right) k (b .args .back .amount) (now (b .args .flow)) (now (b .args .available)) (now (b .args .board)) (l .flow) (l .available) (l .board)) (omega arith) (l .inv .3)
+    let x = b .args in
+    λ pattern s. subst (λ (k : ℕ). Gave (now (x .below)) pattern (now (x .rights)) (x .back .right) k (x .back .amount) (now (x .flow)) (now (x .available)) (now (x .board)) (l .flow) (l .available) (l .board) (l .deep)) (omega arith) (l .inv .3 pattern (s (b .pre .1)))
 
 pub give-points-spec : {M : Type 1} → statement M
 give-points-spec =
@@ -172,8 +180,8 @@ give-points-spec =
     (tie.spec
     Inv-loop
     μ-loop
-    mul-pattern
-    array-copy-out-pattern
+    mul-sums
+    array-copy-out-sums
     loop-holds
     return-percent-requires
     wide8-requires
@@ -184,6 +192,7 @@ give-points-spec =
     sub-split
     split-requires
     give-share-requires
+    add-deep
     add-c
     add-k
     loop-less

@@ -1,6 +1,6 @@
 -- `turns::lines::serve_line` meets its contract. Assumes nothing.
 use Prim.Native.Nat.{ℕ, _<_}
-use mathlib.Core.Path.{sym, ap, _∙_, subst}
+use mathlib.Core.Path.{refl, sym, ap, _∙_, subst}
 use borrow.Author.Needs.{needs}
 use denote.Ref.{now}
 use Rattle.turns.proofs.lines.serve_line.Statement.{statement}
@@ -58,6 +58,7 @@ returns c =
       turned = turned;
       written = c .before .before .put-line .ensures .1 ∙ ap (lineOf (now (s .report)) (s .turn .right) made) named;
       short = c .before .before .put-line .ensures .0;
+      deep = refl;
     }
 
 pub serve-line-spec : {M : Type 1} → statement M
