@@ -22,7 +22,7 @@ impl Call {
     /// A call that the rules accept. The report has any content, and often more
     /// places than it needs.
     pub fn of(river: &River, board: &[u64], rng: &mut Rng) -> Call {
-        let length = river.basin.report_length() + *rng.pick(&[0, 0, 1, 2, 50, 1160]);
+        let length = river.basin.report_length() + *rng.pick(&[0, 0, 1, 2, 50, report::LONGEST]);
         Call {
             file: river.file.clone(),
             runoff: river.runoff(rng),

@@ -5,7 +5,7 @@ use crate::examples::{october, OCTOBER_RUNOFF};
 
 fn after_one_month() -> Tally {
     let mut tally = Tally::new(&october().encode());
-    assert_eq!(tally.call(&OCTOBER_RUNOFF, 27), (0, 2));
+    assert_eq!(tally.call(&OCTOBER_RUNOFF, 28), (0, 2));
     tally
 }
 
@@ -14,7 +14,7 @@ fn after_one_month() -> Tally {
 fn water_that_vanishes_is_seen() {
     let mut tally = after_one_month();
     tally.months[0].flow[2] -= 1;
-    tally.call(&OCTOBER_RUNOFF, 27);
+    tally.call(&OCTOBER_RUNOFF, 28);
 }
 
 #[test]
