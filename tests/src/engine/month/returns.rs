@@ -7,6 +7,12 @@ use crate::engine::records::{Pattern, ReturnPoint, Right, MONTHS};
 use crate::engine::slip::{Slip, Telling};
 use crate::engine::split::{consumption, Split};
 
+/// The months of a pattern up to the last one that brings something back.
+fn up_to_last(pattern: &Pattern) -> &[u8] {
+    let last = pattern.iter().rposition(|&percent| percent != 0);
+    &pattern[..last.map_or(0, |last| last + 1)]
+}
+
 impl<T: Telling> Month<'_, T> {
     /// What of a diversion is not consumed returns: shared out to the points, and each
     /// point's part to the months of the pattern.
@@ -21,9 +27,10 @@ impl<T: Telling> Month<'_, T> {
             return;
         }
         let points = &right.returns[..right.points as usize];
-        let pattern = self.basin.sections.patterns[right.pattern as usize];
+        let basin = self.basin;
+        let pattern = up_to_last(&basin.sections.patterns[right.pattern as usize]);
         if self.slips(Slip::MonthsBeforePoints) {
-            return self.return_by_months(points, returned, &pattern);
+            return self.return_by_months(points, returned, pattern);
         }
         let deep_before = self.deep_loss;
         let mut over_points = Split::of(returned);
@@ -32,18 +39,18 @@ impl<T: Telling> Month<'_, T> {
             if self.slips(Slip::FirstPointTakesAll) {
                 part = if place == 0 { returned } else { 0 };
             }
-            let deep_loss = self.return_part(point.row as usize, part, &pattern);
+            let deep_loss = self.return_part(point.row as usize, part, pattern);
             if place == 0 || !self.slips(Slip::DeepLossOfFirstPoint) {
                 self.deep_loss += deep_loss;
             }
         }
         if self.slips(Slip::DeepLossOfWholeReturn) {
-            self.deep_loss = deep_before + self.deep_loss_of(returned, &pattern);
+            self.deep_loss = deep_before + self.deep_loss_of(returned, pattern);
         }
     }
 
     /// The part of one point, month by month; answers what of it goes deep.
-    fn return_part(&mut self, row: usize, part: i64, pattern: &Pattern) -> i64 {
+    fn return_part(&mut self, row: usize, part: i64, pattern: &[u8]) -> i64 {
         let mut over_months = Split::of(part);
         for (lag, &percent) in pattern.iter().enumerate() {
             let share = over_months.share(self.telling, percent);
@@ -58,7 +65,7 @@ impl<T: Telling> Month<'_, T> {
     }
 
     /// Only for the slip: the points come first.
-    fn return_by_months(&mut self, points: &[ReturnPoint], returned: i64, pattern: &Pattern) {
+    fn return_by_months(&mut self, points: &[ReturnPoint], returned: i64, pattern: &[u8]) {
         let mut over_months = Split::of(returned);
         for (lag, &percent) in pattern.iter().enumerate() {
             let mut over_points = Split::of(over_months.share(self.telling, percent));
@@ -71,7 +78,7 @@ impl<T: Telling> Month<'_, T> {
     }
 
     /// Only for the slip: each point's part has its own.
-    fn deep_loss_of(&self, returned: i64, pattern: &Pattern) -> i64 {
+    fn deep_loss_of(&self, returned: i64, pattern: &[u8]) -> i64 {
         let mut over_months = Split::of(returned);
         pattern.iter().for_each(|&percent| _ = over_months.share(self.telling, percent));
         over_months.left(self.telling)
