@@ -114,6 +114,25 @@ fn see_table(lake: &Reservoir, see: &mut impl FnMut(String)) {
     }
 }
 
+/// How much a pattern brings back, and when.
+fn see_pattern(pattern: &Pattern, see: &mut impl FnMut(String)) {
+    let sum: u32 = pattern.iter().map(|&percent| percent as u32).sum();
+    see(format!("pattern summing to {sum}"));
+    let brings = |percent: &u8| *percent > 0;
+    let first = pattern.iter().position(brings);
+    let Some((first, last)) = first.zip(pattern.iter().rposition(brings)) else { return };
+    let losing = if sum < 100 { "losing pattern" } else { "whole pattern" };
+    if first == 11 {
+        see(format!("{losing} of its last month alone"));
+    }
+    if last < 11 {
+        see(format!("{losing} that ends early"));
+    }
+    if !pattern[first..last].iter().all(brings) {
+        see(format!("{losing} with a zero between"));
+    }
+}
+
 /// Each thing the generator is said to cover does occur.
 #[test]
 fn coverage() {
@@ -136,6 +155,7 @@ fn coverage() {
                 see("full at the start".into());
             }
         }
+        basin.patterns.iter().for_each(|pattern| see_pattern(pattern, &mut see));
         for (place, right) in basin.rights.iter().enumerate() {
             see(format!("kind {} with {} points", right.kind, right.points));
             if right.date == UNDATED {
@@ -153,6 +173,9 @@ fn coverage() {
         }
     }
     let mut wanted: Vec<String> = (1..=8).map(|order| format!("order {order}")).collect();
+    let summing = |sum: u32| format!("pattern summing to {sum}");
+    assert!((0..=100).all(|sum| seen.contains_key(&summing(sum))), "a sum is left out");
+    wanted.extend([0, 1, 99, 100].map(summing));
     for points in 0..=4 {
         wanted.push(format!("kind 1 with {points} points"));
         wanted.push(format!("kind 2 with {points} points"));
@@ -170,6 +193,10 @@ fn coverage() {
         "start at a pair",
         "start above the last pair",
         "table up to 4,294,967,295",
+        "losing pattern of its last month alone",
+        "whole pattern of its last month alone",
+        "losing pattern that ends early",
+        "losing pattern with a zero between",
         "undated",
         "equal dates",
         "return on another tributary",

@@ -112,14 +112,15 @@ fn pattern(rng: &mut Rng) -> Pattern {
     percents
 }
 
-/// Makes a pattern one that loses water: all of it, what would come in some of its months,
-/// or some of every month's. One in eight stays as it is.
+/// Makes a pattern one that loses water: all of it, all but what comes last, what would come
+/// in some of its months, or part of every month's. One in eight stays as it is.
 pub fn losing(rng: &mut Rng, pattern: &mut Pattern) {
     match rng.below(8) {
         0 => pattern.fill(0),
         1 => {
             pattern.fill(0);
-            pattern[MONTHS - 1] = rng.between(1, 100) as u8;
+            let last = rng.between(1, 100) as u8;
+            pattern[MONTHS - 1] = *rng.pick(&[1, 99, 100, last]);
         }
         2 => pattern[rng.below(MONTHS)..].fill(0),
         3 | 4 => pattern.iter_mut().filter(|_| rng.chance(40)).for_each(|percent| *percent = 0),
