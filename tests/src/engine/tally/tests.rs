@@ -25,6 +25,17 @@ fn water_that_appears_in_a_lake_is_seen() {
     tally.call(&[], 0); // refused, and asserted all the same
 }
 
+/// Of 1200 as much is consumed as of 1201, and nothing is on its way: one less has gone deep.
+#[test]
+#[should_panic(expected = "water sum")]
+fn deep_loss_that_vanishes_is_seen() {
+    let basin = Basin { patterns: vec![[0; MONTHS]], ..october() };
+    let mut tally = Tally::new(&basin.encode());
+    assert_eq!(tally.call(&OCTOBER_RUNOFF, 28).0, 0);
+    tally.months[0].grants[1].from_river -= 1;
+    tally.call(&[], 0);
+}
+
 #[test]
 #[should_panic(expected = "account of reservoir 0")]
 fn water_moved_from_river_to_lake_is_seen() {
