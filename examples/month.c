@@ -24,6 +24,7 @@ static void print_report(const uint8_t *file, const uint64_t *report)
     for (size_t reservoir = 0; reservoir < reservoirs; reservoir++)
         printf("reservoir %zu: evaporation %" PRIu64 "\n", reservoir,
                report[RIVER_REPORT_EVAPORATION(rights, stations, reservoir)]);
+    printf("deep loss %" PRIu64 "\n", report[RIVER_REPORT_DEEP_LOSS(rights, stations, reservoirs)]);
 }
 
 /* Answers what the first refused call does, or the last call of all. */

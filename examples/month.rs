@@ -1,4 +1,4 @@
-//! A month from Rust: the fresh board of a basin, its first month with the runoff named, and what is stored and due
+//! A month from Rust: the fresh board of a basin, its first month with the runoff named, and what is stored, due and lost
 //! after it. `include/river.h` says what the answers and the places of board and report mean.
 
 use std::error::Error;
@@ -7,7 +7,7 @@ use std::{env, fs};
 mod river {
     pub const BOARD_LENGTH: usize = 970;
     /// Enough for any basin.
-    pub const REPORT_LONGEST: usize = 4 * 256 + 2 * 64 + 8;
+    pub const REPORT_LONGEST: usize = 4 * 256 + 2 * 64 + 8 + 1;
 
     #[repr(C)]
     pub struct Answer {
@@ -98,11 +98,13 @@ fn main() -> Result<(), Box<dyn Error>> {
     accepted(river::fresh(&file, &mut board))?;
     let short = accepted(river::month(&file, &runoff, &mut board, &mut report))?;
     println!("{short} rights short, next month {}", board[0]);
+    let (stations, reservoirs) = (file[4] as usize, file[12] as usize);
     let rights = u16::from_le_bytes([file[28], file[29]]) as usize;
     for (place, four) in report.chunks(4).take(rights).enumerate() {
         println!("right {place}: river, storage, reason, station {four:?}");
     }
+    let deep_loss = report[4 * rights + 2 * stations + reservoirs];
     let sums = river::stock(&file, &board);
-    println!("stored {}, due {}", sums.storage, sums.due);
+    println!("stored {}, due {}, deep loss {deep_loss}", sums.storage, sums.due);
     Ok(())
 }

@@ -38,7 +38,7 @@ enum river_refusal {
     RIVER_BAD_LAYOUT = 1,    /* place 0: a file cut short, a count out of range, parts that do not lie end to end */
     RIVER_BAD_STATION = 2,   /* the first row at fault */
     RIVER_BAD_RESERVOIR = 3, /* the first reservoir at fault */
-    RIVER_BAD_PATTERN = 4,   /* the first delay pattern at fault */
+    RIVER_BAD_PATTERN = 4,   /* the first delay pattern at fault: one whose percents sum to more than 100 */
     RIVER_BAD_RIGHT = 5,     /* the first right at fault */
     RIVER_BAD_LENGTH = 6,    /* place 0: runoff not one to a station, a board of another length, a report too short, a
                                 list too short for the reports of twelve months */
@@ -85,9 +85,12 @@ enum river_refusal {
 /* Then one for each reservoir: what evaporated. */
 #define RIVER_REPORT_EVAPORATION(rights, stations, reservoir) \
     (RIVER_REPORT_FLOW(rights, stations) + (size_t)(reservoir))
+/* Then one for the whole basin: what of the month's returns goes deep and never comes back to the river. It is what the
+   patterns' percents leave of them, where these sum to less than 100. */
+#define RIVER_REPORT_DEEP_LOSS(rights, stations, reservoirs) RIVER_REPORT_EVAPORATION(rights, stations, reservoirs)
 
 /* A report may be longer than its basin needs; what lies beyond stays as it was. The longest is enough for all. */
-#define RIVER_REPORT_LENGTH(rights, stations, reservoirs) RIVER_REPORT_EVAPORATION(rights, stations, reservoirs)
+#define RIVER_REPORT_LENGTH(rights, stations, reservoirs) (RIVER_REPORT_DEEP_LOSS(rights, stations, reservoirs) + 1)
 #define RIVER_REPORT_LONGEST RIVER_REPORT_LENGTH(RIVER_MOST_RIGHTS, RIVER_MOST_STATIONS, RIVER_MOST_RESERVOIRS)
 
 /* The reports of a year stand one after another, each of the least length, in the order of the months that were run.

@@ -20,7 +20,11 @@ static_assert(RIVER_REPORT_FLOW(5, 0) == RIVER_REPORT_FROM_RIVER(5), "then the s
 static_assert(RIVER_REPORT_AVAILABLE(5, 0) == RIVER_REPORT_FLOW(5, 0) + 1, "two numbers each");
 static_assert(RIVER_REPORT_FLOW(5, 1) == RIVER_REPORT_AVAILABLE(5, 0) + 1, "row after row");
 static_assert(RIVER_REPORT_EVAPORATION(5, 3, 0) == RIVER_REPORT_FLOW(5, 3), "then the reservoirs");
-static_assert(RIVER_REPORT_LENGTH(5, 3, 2) == RIVER_REPORT_EVAPORATION(5, 3, 2), "to the end");
+static_assert(RIVER_REPORT_EVAPORATION(5, 3, 1) == RIVER_REPORT_EVAPORATION(5, 3, 0) + 1, "one number each");
+static_assert(RIVER_REPORT_DEEP_LOSS(5, 3, 2) == RIVER_REPORT_EVAPORATION(5, 3, 1) + 1, "then the deep loss");
+static_assert(RIVER_REPORT_LENGTH(5, 3, 2) == RIVER_REPORT_DEEP_LOSS(5, 3, 2) + 1, "to the end");
+static_assert(RIVER_REPORT_LENGTH(5, 3, 1) == 28, "the worked October's");
+static_assert(RIVER_REPORT_LONGEST == 1161, "of 256 rights, 64 stations and 8 reservoirs");
 
 static_assert(RIVER_REPORTS_LENGTH(5, 3, 2) == 12 * RIVER_REPORT_LENGTH(5, 3, 2), "twelve reports");
 static_assert(RIVER_REPORTS_LONGEST ==

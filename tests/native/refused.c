@@ -1,5 +1,6 @@
-/* The calls on the worked October: accepted once, then with one list or number wrong each time, which changes nothing.
-   Every list lies in memory of just its length, so that valgrind sees a read or a write beyond it. */
+/* The calls on the worked October: accepted once with a pattern that loses water and once as it is; then with one list
+   or number wrong each time, which changes nothing. Every list lies in memory of just its length, so that valgrind sees
+   a read or a write beyond it. */
 #include <inttypes.h>
 #include <stdio.h>
 #include <stdlib.h>
@@ -8,6 +9,7 @@
 #include "river.h"
 
 enum { STATIONS = 3, RESERVOIRS = 1, RIGHTS = 5, YEARS = 2 };
+#define DEEP_LOSS RIVER_REPORT_DEEP_LOSS(RIGHTS, STATIONS, RESERVOIRS)
 #define REPORT_LENGTH RIVER_REPORT_LENGTH(RIGHTS, STATIONS, RESERVOIRS)
 #define REPORTS_LENGTH RIVER_REPORTS_LENGTH(RIGHTS, STATIONS, RESERVOIRS)
 #define BOOK_LENGTH RIVER_BOOK_LENGTH(STATIONS, YEARS)
@@ -65,6 +67,28 @@ static void refused(const char *what, size_t runoffs, uint32_t others, const uin
     free(lent);
     free(report);
     free(blank);
+}
+
+/* October from its fresh board; tells the deep loss too. */
+static void october(const char *what, const uint32_t *runoff, uint64_t *board)
+{
+    uint64_t *report = numbers(REPORT_LENGTH);
+    print_answer("fresh", river_fresh(file, length, board, RIVER_BOARD_LENGTH));
+    print_stock("stock", board, RIVER_BOARD_LENGTH);
+    print_answer(what, river_month(file, length, runoff, STATIONS, board, RIVER_BOARD_LENGTH, report, REPORT_LENGTH));
+    printf("deep loss %" PRIu64 "\n", report[DEEP_LOSS]);
+    print_stock("stock", board, RIVER_BOARD_LENGTH);
+    free(report);
+}
+
+/* The pattern of 50, 30 and 20 percent, in the bytes from 124 on, with 21, none and again 20 in the third month. */
+static void patterns(const uint32_t *runoff, uint64_t *board)
+{
+    file[126] = 21;
+    print_answer("pattern of 101", river_verdict(file, length));
+    file[126] = 0;
+    october("October with a pattern of 80", runoff, board);
+    file[126] = 20;
 }
 
 /* A number of four bytes, the least first. */
@@ -152,7 +176,7 @@ int main(int count, char **names)
 {
     if (count != 2 || (file = read_file(names[1], &length)) == NULL)
         return 1;
-    uint64_t *board = numbers(RIVER_BOARD_LENGTH), *report = numbers(REPORT_LENGTH);
+    uint64_t *board = numbers(RIVER_BOARD_LENGTH);
     uint64_t *shorter = numbers(RIVER_BOARD_LENGTH - 1);
     uint32_t *runoff = runoff_of(STATIONS, 2000, 700);
     runoff[2] = 300;
@@ -169,11 +193,8 @@ int main(int count, char **names)
         if (board[place] != 99 || (place + 1 < RIVER_BOARD_LENGTH && shorter[place] != 99))
             printf("    a board is changed at %zu\n", place);
 
-    print_answer("fresh", river_fresh(file, length, board, RIVER_BOARD_LENGTH));
-    print_stock("stock", board, RIVER_BOARD_LENGTH);
-    print_answer("October",
-                 river_month(file, length, runoff, STATIONS, board, RIVER_BOARD_LENGTH, report, REPORT_LENGTH));
-    print_stock("stock", board, RIVER_BOARD_LENGTH);
+    patterns(runoff, board);
+    october("October", runoff, board);
 
     refused("runoff too short", STATIONS - 1, 0, board, RIVER_BOARD_LENGTH, REPORT_LENGTH);
     refused("runoff too long", STATIONS + 1, 0, board, RIVER_BOARD_LENGTH, REPORT_LENGTH);
@@ -192,7 +213,6 @@ int main(int count, char **names)
     free(file);
     free(book);
     free(board);
-    free(report);
     free(shorter);
     free(runoff);
     return 0;

@@ -11,6 +11,23 @@ double months.bin 1
 run
 wants 0 '' "$header" "$october" "$november"
 
+# ---- October's pattern, 50, 30 and 20 percent from byte 124 on, with less in it: the rest goes deep and is not listed ----
+
+# 161 of what 12 returns in each month never come; so far nothing else is another.
+begin losing_pattern_of_80
+october
+double months.bin 1
+put basin.bin 126 00
+run
+wants 0 '' "$header" "${october%403}242" "${november%564}242"
+
+# Nothing of it comes. 13 finds 299 at 300, of 3000 less 1500 and 1201; 14 has its 600 from storage, where 1299 are; 699 have 13 acres.
+begin losing_pattern_of_zeros
+october
+for at in 124 125 126; do put basin.bin "$at" 00; done
+run
+wants 0 '' "$header" '0 11 1500 0 0 0' '0 12 1201 0 0 0' '0 13 299 0 2 300' '0 14 0 600 0 0' '0 15 0 0 1 100' '0 end 0 65 634 0'
+
 # ---- a file that is missing, can't be opened, is empty, is a directory ----
 
 # The basin is judged first; where it is refused nothing is said of months.bin.
@@ -140,5 +157,5 @@ refused_basin() {
 refused_basin station_count_4 4 04 'refused 1 0'          # bodies follow the contents without gaps
 refused_basin last_row_of_order_2 52 02 'refused 2 1'     # row 1, of order 1, then has no row below
 refused_basin start_above_capacity 65 23 'refused 3 0'    # 9192 units stored in a reservoir of 5000
-refused_basin pattern_of_101 124 33 'refused 4 0'         # a pattern's percents sum to 100
+refused_basin pattern_of_101 124 33 'refused 4 0'         # a pattern's percents sum to 100 at most
 refused_basin efficiency_99 375 63 'refused 5 3'          # a right without return points has efficiency 100

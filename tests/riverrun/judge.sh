@@ -124,6 +124,12 @@ thirteen_sheets() {
     done
 }
 
+# Makes the patterns of the largest basin, sixteen of twelve bytes from 1088 on, lose water: the first all of it, the others every third percent.
+lose_water() {
+    local at
+    for at in $(seq 1088 1099) $(seq 1100 3 1279); do put basin.bin "$at" 00; done
+}
+
 october_basin() {
     cp "$samples/october.basin.bin" basin.bin
 }

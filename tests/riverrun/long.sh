@@ -65,6 +65,11 @@ begin largest_basin
 "$built/write_bench" . 120
 both
 
+begin losing_largest_basin
+"$built/write_bench" . 120
+lose_water
+both
+
 begin provo
 cp "$samples/provo.basin.bin" basin.bin
 cp "$samples/provo.months.bin" months.bin

@@ -18,6 +18,13 @@ october_book
 asks 1960 1963 1966 1969 1972
 both
 
+# The third month's 20 percent of October's pattern go deep.
+begin losing_each_year
+october_book
+put basin.bin 126 00
+asks 1960 1963 1966 1969 1972
+both
+
 begin many_years
 october_book
 mapfile -t list_of_years < <(for n in $(seq 300); do echo $((1960 + 3 * (n * n / 3 % 5))); done)
@@ -34,6 +41,13 @@ begin largest_basin
 "$built/write_bench" . 240
 "$built/write_book" basin.bin months.bin book.bin $(seq 1960 1979)
 asks $(seq 1960 1979) 1960
+both
+
+begin losing_largest_basin
+"$built/write_bench" . 240
+lose_water
+"$built/write_book" basin.bin months.bin book.bin $(seq 1960 1979)
+asks 1960 1979 1960
 both
 
 begin largest_basin_and_a_byte_more

@@ -6,7 +6,7 @@ use crate::engine::records::*;
 mod bodies;
 mod books;
 mod rng;
-use bodies::{extreme_table, stations_of, up_to, with_bodies};
+use bodies::{extreme_table, losing, stations_of, up_to, with_bodies};
 pub use books::{any_listed, years_of};
 pub use rng::Rng;
 
@@ -56,11 +56,15 @@ pub fn river_of(rng: &mut Rng, size: Size) -> River {
     let mut river = river(rng, size, volume, water);
     if rng.chance(20) {
         river.basin.reservoirs.iter_mut().for_each(|lake| extreme_table(rng, lake));
-        river.file = river.basin.encode();
     }
+    if rng.chance(70) {
+        river.basin.patterns.iter_mut().for_each(|pattern| losing(rng, pattern));
+    }
+    river.file = river.basin.encode();
     river
 }
 
+/// All that is returned comes back, as in the stored files and the timed basins.
 pub fn river(rng: &mut Rng, size: Size, volume: Volume, water: Water) -> River {
     let amount_limit = match volume {
         Volume::Drops => 25,

@@ -114,7 +114,10 @@ impl<'a> Run<'a> {
         // A line to the month: what leaves at the last row, and over the whole basin what
         // evaporated, is stored and is on its way.
         let outflow = self.report[report::flow(rights, rows - 1)];
-        let evaporation = self.report[report::evaporation(rights, rows, 0)..].iter().sum();
+        let reservoirs = sections.reservoirs.len();
+        let evaporations =
+            report::evaporation(rights, rows, 0)..report::evaporation(rights, rows, reservoirs);
+        let evaporation = self.report[evaporations].iter().sum();
         let storage = self.board[STORAGES..MARKS].iter().sum();
         let pending = self.board[DUES..].iter().sum();
         push_number(text, number, b' ');

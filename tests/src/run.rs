@@ -17,6 +17,7 @@ pub struct Run {
     reports: Vec<u64>,
     rights: usize,
     rows: usize,
+    reservoirs: usize,
     tally: Tally,
 }
 
@@ -39,6 +40,7 @@ impl Run {
             reports: vec![BEFORE; MONTHS * basin.report_length() + 5],
             rights: basin.rights.len(),
             rows: basin.stations.len(),
+            reservoirs: basin.reservoirs.len(),
         }
     }
 
@@ -47,9 +49,10 @@ impl Run {
         let answer = (self.calls.month)(&self.file, runoff, &mut self.board, &mut self.report);
         assert_eq!(self.tally.call(runoff, self.report.len()), answer);
         assert_eq!(answer.0, 0);
-        let grants = self.tally.months.last().unwrap().grants.iter();
-        let stations: Vec<u64> = grants.map(|grant| grant.station as u64).collect();
+        let past = self.tally.months.last().unwrap();
+        let stations: Vec<u64> = past.grants.iter().map(|grant| grant.station as u64).collect();
         assert_eq!(self.grants().iter().map(|grant| grant[3]).collect::<Vec<_>>(), stations);
+        assert_eq!(self.deep_loss() as i128, self.tally.deep_loss(past));
         answer.1
     }
 
@@ -65,6 +68,11 @@ impl Run {
         let told = if number == 0 { calls as usize * self.report.len() } else { 0 };
         assert!(self.reports[told..].iter().all(|&number| number == BEFORE));
         assert!(number == 0 || self.board == before, "a refused run changes nothing");
+        let first = self.tally.months.len() - told / self.report.len();
+        let reports = self.reports.chunks(self.report.len());
+        for (past, report) in self.tally.months[first..].iter().zip(reports) {
+            assert_eq!(report[self.deep_place()] as i128, self.tally.deep_loss(past));
+        }
         answer
     }
 
@@ -93,7 +101,15 @@ impl Run {
     }
 
     pub fn evaporation(&self) -> &[u64] {
-        &self.report[report::evaporation(self.rights, self.rows, 0)..]
+        &self.report[report::evaporation(self.rights, self.rows, 0)..self.deep_place()]
+    }
+
+    pub fn deep_loss(&self) -> u64 {
+        self.report[self.deep_place()]
+    }
+
+    fn deep_place(&self) -> usize {
+        report::deep_loss(self.rights, self.rows, self.reservoirs)
     }
 
     fn of_rows(&self, place: fn(usize, usize) -> usize) -> Vec<u64> {

@@ -1,8 +1,8 @@
 //! The runs that program `riverrun` is put to under the gate: two files each, of
 //! which either may be missing, and the listing that the rules give them.
 
-use crate::engine::records::{Basin, MONTHS, MOST_RUNOFF};
-use crate::examples::{months_bytes, october, project, reservoir, stations, tight_spots};
+use crate::engine::records::{Basin, MONTHS, MOST_RUNOFF, UNDATED};
+use crate::examples::*;
 use crate::generate::{river, Rng, Size, Volume, Water};
 use crate::listing::listing;
 
@@ -77,6 +77,9 @@ pub fn runs(provo: [Vec<u8>; 2]) -> Vec<Run> {
     }
     let wet_and_dry = months_bytes(&[20, 0, 0, 0, 0, 9, 0, 4]);
     all.push(run("first_tight_spot", Some(tight_spots().encode()), Some(wet_and_dry)));
+    let wet_and_dry = [[1500, 100, 50, 0], [200, 0, 30, 5], [0; 4], [40, 700, 0, 0], [0, 0, 9, 1]];
+    let two_years: Vec<u32> = wet_and_dry.iter().flatten().copied().cycle().take(4 * 24).collect();
+    all.push(run("deep_losses", Some(losing().encode()), Some(months_bytes(&two_years))));
     all
 }
 
@@ -108,6 +111,27 @@ fn extreme() -> Basin {
     let mut lake = reservoir(0, 2_000_000_000, 2_000_000_000, table);
     lake.depths = [300; MONTHS];
     Basin { stations: stations(&[(100, 1)]), reservoirs: vec![lake], ..Basin::default() }
+}
+
+/// Patterns that lose a fifth, all, nothing, and all but 3 percent that come last. The two
+/// parts of the first right, 1 and 2, lose 1 each, where the whole 3 would lose 1.
+fn losing() -> Basin {
+    let late = [0, 0, 0, 0, 0, 0, 0, 0, 0, 0, 0, 3];
+    Basin {
+        stations: stations(&[(10, 2), (20, 1), (30, 1), (40, 1)]),
+        reservoirs: vec![reservoir(0, 900, 300, [(0, 1), (300, 4), (600, 9), (900, 9)])],
+        patterns: vec![pattern(&[50, 30]), pattern(&[]), pattern(&[50, 30, 20]), late],
+        rights: vec![
+            direct(1, 18900101, 0, 3).returning(0, 0, &[(1, 50), (2, 50)]),
+            direct(2, 18910101, 0, 805).returning(0, 0, &[(2, 100)]),
+            direct(3, 18920101, 1, 40).returning(25, 1, &[(2, 60), (3, 40)]),
+            instream(4, 18930101, 2, 10),
+            storage(5, 18940101, 0, 0, 100, 500),
+            direct(6, 18950101, 1, 201).returning(33, 2, &[(2, 100)]),
+            project(7, 18960101, 2, 0, 60).returning(10, 3, &[(2, 40), (3, 30), (3, 20), (3, 10)]),
+            direct(8, UNDATED, 3, 99).returning(50, 0, &[(3, 97), (3, 3)]),
+        ],
+    }
 }
 
 /// A right without return points that would return part of its grant.

@@ -25,6 +25,11 @@ fn files_and_lines_are_the_cases() {
         assert_eq!((name, format!("{line}\n")), (unread.as_str(), said));
     }
     assert!(folder.join("data").join(A_FOLDER).is_dir());
+    // A case that is gone leaves no file behind.
+    let there = fs::read_dir(folder.join("data")).unwrap();
+    let there = there.map(|entry| entry.unwrap().file_name().into_string().unwrap());
+    let named = all.iter().map(|case| case.name.clone()).chain([A_FOLDER.to_string()]);
+    assert_eq!(there.collect::<BTreeSet<_>>(), named.collect());
 }
 
 #[test]

@@ -114,6 +114,59 @@ fn see_table(lake: &Reservoir, see: &mut impl FnMut(String)) {
     }
 }
 
+/// How much a pattern brings back, and when.
+fn see_pattern(pattern: &Pattern, see: &mut impl FnMut(String)) {
+    let sum: u32 = pattern.iter().map(|&percent| percent as u32).sum();
+    see(format!("pattern summing to {sum}"));
+    let brings = |percent: &u8| *percent > 0;
+    let first = pattern.iter().position(brings);
+    let Some((first, last)) = first.zip(pattern.iter().rposition(brings)) else { return };
+    let losing = if sum < 100 { "losing pattern" } else { "whole pattern" };
+    if first == 11 {
+        see(format!("{losing} of its last month alone"));
+    }
+    if last < 11 {
+        see(format!("{losing} that ends early"));
+    }
+    if !pattern[first..last].iter().all(brings) {
+        see(format!("{losing} with a zero between"));
+    }
+}
+
+/// What has to occur more than a few times.
+fn wanted() -> Vec<String> {
+    let mut wanted: Vec<String> = (1..=8).map(|order| format!("order {order}")).collect();
+    wanted.extend([0, 1, 99, 100].map(|sum| format!("pattern summing to {sum}")));
+    for points in 0..=4 {
+        wanted.push(format!("kind 1 with {points} points"));
+        wanted.push(format!("kind 2 with {points} points"));
+    }
+    for what in [
+        "kind 3 with 0 points",
+        "kind 4 with 0 points",
+        "path leaves out a row",
+        "two reservoirs on a row",
+        "full at the start",
+        "start where the area goes Less",
+        "start where the area goes Equal",
+        "start where the area goes Greater",
+        "areas 0 and 1,000,000",
+        "start at a pair",
+        "start above the last pair",
+        "table up to 4,294,967,295",
+        "losing pattern of its last month alone",
+        "whole pattern of its last month alone",
+        "losing pattern that ends early",
+        "losing pattern with a zero between",
+        "undated",
+        "equal dates",
+        "return on another tributary",
+    ] {
+        wanted.push(what.into());
+    }
+    wanted
+}
+
 /// Each thing the generator is said to cover does occur.
 #[test]
 fn coverage() {
@@ -136,6 +189,7 @@ fn coverage() {
                 see("full at the start".into());
             }
         }
+        basin.patterns.iter().for_each(|pattern| see_pattern(pattern, &mut see));
         for (place, right) in basin.rights.iter().enumerate() {
             see(format!("kind {} with {} points", right.kind, right.points));
             if right.date == UNDATED {
@@ -152,31 +206,9 @@ fn coverage() {
             }
         }
     }
-    let mut wanted: Vec<String> = (1..=8).map(|order| format!("order {order}")).collect();
-    for points in 0..=4 {
-        wanted.push(format!("kind 1 with {points} points"));
-        wanted.push(format!("kind 2 with {points} points"));
-    }
-    for what in [
-        "kind 3 with 0 points",
-        "kind 4 with 0 points",
-        "path leaves out a row",
-        "two reservoirs on a row",
-        "full at the start",
-        "start where the area goes Less",
-        "start where the area goes Equal",
-        "start where the area goes Greater",
-        "areas 0 and 1,000,000",
-        "start at a pair",
-        "start above the last pair",
-        "table up to 4,294,967,295",
-        "undated",
-        "equal dates",
-        "return on another tributary",
-    ] {
-        wanted.push(what.into());
-    }
-    for what in wanted {
+    let mut sums = (0..=100).map(|sum| format!("pattern summing to {sum}"));
+    assert!(sums.all(|sum| seen.contains_key(&sum)), "a sum is left out");
+    for what in wanted() {
         assert!(seen.get(&what).is_some_and(|&times| times > 20), "{what}: {:?}", seen.get(&what));
     }
 }

@@ -5,6 +5,7 @@
 use river_tests::damage::broken_books;
 use river_tests::engine::book::{encode, WaterYear};
 use river_tests::engine::records::MOST_RUNOFF;
+use river_tests::engine::report::LONGEST;
 use river_tests::engine::tally::Tally;
 use river_tests::examples::{months_bytes, october, OCTOBER_RUNOFF};
 use river_tests::generate::{any_river, Rng};
@@ -62,11 +63,11 @@ fn the_book_of_rivercalls_and_what_it_prints_of_it() {
     assert_eq!(fs::read(folder.join("data/october.book.bin")).unwrap(), book);
 
     let mut tally = Tally::new(&october().encode());
-    assert_eq!(tally.call(&OCTOBER_RUNOFF, 27), (0, 2));
-    let (reports, text) = (12 * 27, fs::read_to_string(folder.join("stdout")).unwrap());
+    assert_eq!(tally.call(&OCTOBER_RUNOFF, 28), (0, 2));
+    let (reports, text) = (12 * 28, fs::read_to_string(folder.join("stdout")).unwrap());
     for (line, year, list) in [
-        ("run of 1888, list of 323", 1888, reports - 1),
-        ("run of 1890, list of 323", 1890, reports - 1),
+        ("run of 1888, list of 335", 1888, reports - 1),
+        ("run of 1890, list of 335", 1890, reports - 1),
         ("run of 1890, March over the limit", 1890, reports),
         ("run of 1889, from November", 1889, reports),
     ] {
@@ -82,7 +83,7 @@ fn the_book_of_rivercalls_and_what_it_prints_of_it() {
 #[test]
 fn the_example_in_c_prints_what_the_tally_has() {
     let mut tally = Tally::new(PROVO);
-    assert_eq!(tally.run_year(PROVO_BOOK, 1964, 12 * 1160), (0, 12));
+    assert_eq!(tally.run_year(PROVO_BOOK, 1964, 12 * LONGEST), (0, 12));
     let mut text = String::new();
     for (month, past) in tally.months.iter().enumerate() {
         text += &format!("month {month}: outflow {}\n", past.flow.last().unwrap());

@@ -132,4 +132,18 @@ pub const LEGAL: &[(&str, Edit)] = &[
     ("unused pairs absent with four points", |b, rng| {
         edit_right(b, rng, with_points, |r| points(r, &[25, 25, 25, 25]))
     }),
+    // Patterns that lose water (02, No. 5).
+    ("pattern summing to 99", |b, rng| edit_pattern(b, rng, &[98, 1])),
+    ("pattern of 1 percent", |b, rng| edit_pattern(b, rng, &[1])),
+    ("pattern of 1 percent in its last month", |b, rng| {
+        edit_pattern(b, rng, &[0, 0, 0, 0, 0, 0, 0, 0, 0, 0, 0, 1])
+    }),
+    ("pattern with zeros between its months", |b, rng| {
+        edit_pattern(b, rng, &[20, 0, 0, 30, 0, 0, 0, 0, 0, 0, 0, 7])
+    }),
+    ("pattern of zeros", |b, rng| edit_pattern(b, rng, &[])),
+    ("every pattern of zeros", |b, _| {
+        (!b.patterns.is_empty()).then(|| b.patterns.fill([0; MONTHS]))?;
+        Some(0)
+    }),
 ];

@@ -154,15 +154,16 @@ fn table_at_fault<T: Telling>(telling: &T, reservoir: &Reservoir) -> bool {
 
 // ---- 4: patterns ----
 
-/// All that returns comes back within the twelve months of a pattern.
+/// No more comes back than is returned, and all of it may go deep (02, No. 5).
 fn judge_patterns<T: Telling>(telling: &T, sections: &Sections) -> Result<(), Refusal> {
     refuse_first(telling, 4, sections.patterns.len(), |place| {
-        let sum: u32 = sections.patterns[place].iter().map(|&p| p as u32).sum();
+        let mut sum: u32 = sections.patterns[place].iter().map(|&p| p as u32).sum();
         if telling.slips(Slip::PatternSumModulo) {
-            sum & 255 != 100
-        } else {
-            sum != 100
+            sum &= 255;
         }
+        (sum > 100 && !telling.slips(Slip::PatternSumNotTested))
+            || (sum < 100 && telling.slips(Slip::PatternBelow100Refused))
+            || (sum == 0 && telling.slips(Slip::PatternOfZerosRefused))
     })
 }
 

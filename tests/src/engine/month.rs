@@ -80,6 +80,7 @@ pub fn run_month<T: Telling>(
     let shorts = month.shorts;
     month.report_rows(report);
     month.evaporate(report);
+    month.report_deep_loss(report);
     month.end();
     if telling.slips(Slip::ReportTailCleared) {
         report[basin.sections.report_length()..].fill(0);
@@ -129,6 +130,8 @@ struct Month<'a, T> {
     /// Rows of all rights already served; only for slips.
     served_rows: u64,
     shorts: u64,
+    /// What of this month's returns goes deep, over all rights.
+    deep_loss: i64,
 }
 
 impl<'a, T: Telling> Month<'a, T> {
@@ -147,6 +150,7 @@ impl<'a, T: Telling> Month<'a, T> {
             short_rows: 0,
             served_rows: 0,
             shorts: 0,
+            deep_loss: 0,
             board,
         }
     }
@@ -234,11 +238,15 @@ impl<'a, T: Telling> Month<'a, T> {
                 report[report::available(rights, row)] = self.available[row] as u64;
             }
         }
+        if self.slips(Slip::DeepLossFlowsOut) {
+            report[report::flow(rights, rows - 1)] += self.deep_loss as u64;
+        }
     }
 
     /// Step 4: every reservoir loses this month's depth over its area, or all that it has.
     fn evaporate(&mut self, report: &mut [u64]) {
-        let start = report::evaporation(self.basin.sections.rights.len(), self.rows(), 0);
+        let mut start = report::evaporation(self.basin.sections.rights.len(), self.rows(), 0);
+        start += self.slips(Slip::DeepLossBeforeEvaporation) as usize;
         let late = self.slips(Slip::DepthOfNextMonth) as usize;
         for (place, record) in self.basin.sections.reservoirs.iter().enumerate() {
             let reservoir = Reservoir::decode(record);
@@ -255,6 +263,18 @@ impl<'a, T: Telling> Month<'a, T> {
             self.storage[place] -= evaporation;
             report[start + place] = evaporation as u64;
         }
+    }
+
+    /// The month's deep loss is told behind all evaporations (02, No. 5).
+    fn report_deep_loss(&self, report: &mut [u64]) {
+        let sections = &self.basin.sections;
+        let (rights, reservoirs) = (sections.rights.len(), sections.reservoirs.len());
+        let before = if self.slips(Slip::DeepLossBeforeEvaporation) { 0 } else { reservoirs };
+        let place = report::deep_loss(rights, self.rows(), before);
+        if self.slips(Slip::ReportWithoutDeepLoss) && place == report.len() {
+            return;
+        }
+        report[place] = self.deep_loss as u64;
     }
 
     /// Step 5: October follows September.

@@ -1,5 +1,5 @@
 //! The places of a report: four numbers of each right, then two of each row, then one of
-//! each reservoir (01, The board and one month).
+//! each reservoir (01, The board and one month), then the month's deep loss (02, No. 5).
 
 use super::records::{MOST_RESERVOIRS, MOST_RIGHTS, MOST_STATIONS};
 
@@ -31,9 +31,14 @@ pub const fn evaporation(rights: usize, rows: usize, reservoir: usize) -> usize 
     flow(rights, rows) + reservoir
 }
 
+/// One number for the whole basin, behind the last reservoir's.
+pub const fn deep_loss(rights: usize, rows: usize, reservoirs: usize) -> usize {
+    evaporation(rights, rows, reservoirs)
+}
+
 /// How many there are.
 pub const fn length(rights: usize, rows: usize, reservoirs: usize) -> usize {
-    evaporation(rights, rows, reservoirs)
+    deep_loss(rights, rows, reservoirs) + 1
 }
 
 /// Room for the report of any basin.

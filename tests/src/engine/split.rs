@@ -5,8 +5,9 @@ use super::slip::{Slip, Telling};
 
 /// Splits an amount by percents, one share after the other. Rounded down is not the
 /// share but the amount up to it, by the percents so far; a share is what that has
-/// grown by. So nothing is lost: the shares of percents that sum to 100 add up to the
-/// amount (01, The board and one month, step 3).
+/// grown by. So rounding loses nothing: the shares of percents that sum to 100 add up to
+/// the amount (01, The board and one month, step 3). What percents that sum to less leave
+/// of it is the deep loss (02, No. 5).
 pub struct Split {
     amount: i64,
     percents: i64,
@@ -21,10 +22,12 @@ impl Split {
 
     #[inline(always)]
     pub fn share<T: Telling>(&mut self, telling: &T, percent: u8) -> i64 {
-        if telling.slips(Slip::SharesFlooredAlone) {
-            return self.amount * percent as i64 / 100;
-        }
         self.percents += percent as i64;
+        if telling.slips(Slip::SharesFlooredAlone) {
+            let share = self.amount * percent as i64 / 100;
+            self.given += share;
+            return share;
+        }
         let up_to_here = if telling.slips(Slip::SharesRoundedUp) {
             (self.amount * self.percents + 99) / 100
         } else {
@@ -33,6 +36,15 @@ impl Split {
         let share = up_to_here - self.given;
         self.given = up_to_here;
         share
+    }
+
+    /// What no share so far has of the amount; after the last of them, the deep loss.
+    #[inline(always)]
+    pub fn left<T: Telling>(&self, telling: &T) -> i64 {
+        if telling.slips(Slip::DeepLossFloored) {
+            return self.amount * (100 - self.percents) / 100;
+        }
+        self.amount - self.given
     }
 }
 

@@ -1,8 +1,8 @@
 //! The tally of a list of months, the account of a run, told as slowly and as
 //! literally as the rules tell it (01, The tally of a list of months). It shares the
 //! records and the file's check with the engine, and nothing of the month: paths are
-//! walked row by row, returns on their way are worked out from the grants of the past
-//! months.
+//! walked row by row, returns on their way and deep loss are worked out from the grants
+//! of the past months.
 //!
 //! After every call it asserts the water sum and each reservoir's account; before the
 //! first right and three times in each right's turn, that at every row

@@ -112,6 +112,25 @@ fn pattern(rng: &mut Rng) -> Pattern {
     percents
 }
 
+/// Makes a pattern one that loses water: all of it, all but what comes last, what would come
+/// in some of its months, or part of every month's. One in eight stays as it is.
+pub fn losing(rng: &mut Rng, pattern: &mut Pattern) {
+    match rng.below(8) {
+        0 => pattern.fill(0),
+        1 => {
+            pattern.fill(0);
+            let last = rng.between(1, 100) as u8;
+            pattern[MONTHS - 1] = *rng.pick(&[1, 99, 100, last]);
+        }
+        2 => pattern[rng.below(MONTHS)..].fill(0),
+        3 | 4 => pattern.iter_mut().filter(|_| rng.chance(40)).for_each(|percent| *percent = 0),
+        5 | 6 => {
+            pattern.iter_mut().for_each(|percent| *percent = rng.between(0, *percent as u64) as u8)
+        }
+        _ => (),
+    }
+}
+
 /// Percents that sum to 100, each 0 to 100.
 fn cut_hundred(rng: &mut Rng, parts: usize) -> Vec<u8> {
     let mut cuts: Vec<u8> = (1..parts).map(|_| rng.between(0, 100) as u8).collect();

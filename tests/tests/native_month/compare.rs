@@ -22,7 +22,7 @@ impl Call {
     /// A call that the rules accept. The report has any content, and often more
     /// places than it needs.
     pub fn of(river: &River, board: &[u64], rng: &mut Rng) -> Call {
-        let length = river.basin.report_length() + *rng.pick(&[0, 0, 1, 2, 50, 1160]);
+        let length = river.basin.report_length() + *rng.pick(&[0, 0, 1, 2, 50, report::LONGEST]);
         Call {
             file: river.file.clone(),
             runoff: river.runoff(rng),
@@ -39,6 +39,8 @@ pub struct Compared {
     pub numbers: [usize; 9],
     /// Rights of accepted calls by reason.
     pub reasons: [usize; 4],
+    /// Accepted calls in which water went deep.
+    pub deep: usize,
 }
 
 impl Compared {
@@ -60,21 +62,28 @@ impl Compared {
         }
         native_report.assert_is(&report, "report", at);
         native_board.assert_is(&board, "board", at);
-        let rights =
-            find_sections(&Faithful, &call.file).map_or(0, |sections| sections.rights.len());
-        (0..rights).for_each(|place| self.reasons[report[report::reason(place)] as usize] += 1);
+        self.count(&call.file, &report);
         call.board = board;
         call.report = report;
         answer
+    }
+
+    /// What the report of an accepted call tells.
+    fn count(&mut self, file: &[u8], report: &[u64]) {
+        let Ok(sections) = find_sections(&Faithful, file) else { return };
+        let (rights, rows) = (sections.rights.len(), sections.stations.len());
+        (0..rights).for_each(|place| self.reasons[report[report::reason(place)] as usize] += 1);
+        let deep_loss = report[report::deep_loss(rights, rows, sections.reservoirs.len())];
+        self.deep += (deep_loss > 0) as usize;
     }
 
     /// native.sh adds up the counts of these lines.
     pub fn print(&self, what: &str) {
         let refused: usize = self.numbers[1..].iter().sum();
         println!(
-            "{} calls, {refused} refused: {what}, by number 0 to 8 {:?}; rights by reason 0 to 3 \
-             {:?}",
-            self.calls, self.numbers, self.reasons
+            "{} calls, {refused} refused: {what}, by number 0 to 8 {:?}; {} with deep loss; rights \
+             by reason 0 to 3 {:?}",
+            self.calls, self.numbers, self.deep, self.reasons
         );
     }
 }

@@ -153,6 +153,7 @@ fn lists_of_months() {
         assert!(compared.numbers.iter().all(|&times| times > 500), "{compared:?}");
         assert!(compared.reasons.iter().all(|&times| times > 10_000), "{compared:?}");
         assert!(met.long_lists > 1000 && met.blocked > 10_000, "{met:?}");
+        assert!(compared.deep > 50_000, "{compared:?}");
         assert!(met.spoilt.iter().all(|&times| times > 5000), "{met:?}");
     }
 }

@@ -3,6 +3,7 @@
 
 use river_tests::engine::board::NEXT_MONTH;
 use river_tests::engine::book::{encode, WaterYear};
+use river_tests::engine::report::LONGEST;
 use river_tests::engine::{find_year, run_year, Answer};
 use river_tests::ffi;
 use river_tests::generate::{any_river, River, Rng};
@@ -41,7 +42,7 @@ impl Ask {
     /// A run that the rules accept, where there is a year. The list has any content, and
     /// often more places than it needs.
     pub fn of(shelf: &Shelf, board: &[u64], rng: &mut Rng) -> Ask {
-        let length = shelf.enough() + *rng.pick(&[0, 0, 0, 1, 2, 50, 1160]);
+        let length = shelf.enough() + *rng.pick(&[0, 0, 0, 1, 2, 50, LONGEST]);
         Ask {
             file: shelf.river.file.clone(),
             book: encode(&shelf.years),

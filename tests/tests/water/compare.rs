@@ -11,6 +11,8 @@ pub struct Compared {
     pub marked: usize,
     /// Grants by reason.
     pub reasons: [usize; 4],
+    /// Months in which water went deep.
+    pub deep: usize,
 }
 
 pub fn compare_board(tally: &Tally, board: &[u64]) {
@@ -31,8 +33,8 @@ pub fn compare_board(tally: &Tally, board: &[u64]) {
     assert_eq!(board, expected);
 }
 
-/// A report, of the least length or longer, against the month that it tells.
-pub fn compare_report(past: &PastMonth, report: &[u64], compared: &mut Compared) {
+/// A report, of the least length or longer, against the tally's month that it tells.
+pub fn compare_report(tally: &Tally, past: &PastMonth, report: &[u64], compared: &mut Compared) {
     for (place, grant) in past.grants.iter().enumerate() {
         let reason = grant.reason.number();
         assert_eq!(report[report::from_river(place)], grant.from_river as u64);
@@ -49,4 +51,8 @@ pub fn compare_report(past: &PastMonth, report: &[u64], compared: &mut Compared)
     for (lake, evaporation) in past.evaporation.iter().enumerate() {
         assert_eq!(report[report::evaporation(rights, rows, lake)], *evaporation as u64);
     }
+    let deep_loss = tally.deep_loss(past);
+    let place = report::deep_loss(rights, rows, past.evaporation.len());
+    assert_eq!(report[place], deep_loss as u64);
+    compared.deep += (deep_loss > 0) as usize;
 }

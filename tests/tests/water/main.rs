@@ -46,7 +46,7 @@ fn compare_list(rng: &mut Rng, river: &River, calls: usize, compared: &mut Compa
             continue;
         }
         compare_board(&tally, &board);
-        compare_report(tally.months.last().unwrap(), &report, compared);
+        compare_report(&tally, tally.months.last().unwrap(), &report, compared);
         assert!(report[length..].iter().all(|&number| number == 77));
         compared.marked += tally.marks.iter().filter(|&&mark| mark).count();
     }
@@ -63,8 +63,8 @@ fn compare_many(seeds: std::ops::Range<u64>, size: Option<Size>, calls: usize) -
         compare_list(rng, &river, calls, &mut compared);
     }
     println!(
-        "{} calls, {} refused, {} marked lakes, grants by reason {:?}",
-        compared.calls, compared.refused, compared.marked, compared.reasons
+        "{} calls, {} refused, {} with deep loss, {} marked lakes, grants by reason {:?}",
+        compared.calls, compared.refused, compared.deep, compared.marked, compared.reasons
     );
     compared
 }
@@ -75,18 +75,21 @@ fn small_rivers_over_years() {
     // The lists are worth something only if all of this happens in them.
     assert!(compared.refused > 1000);
     assert!(compared.marked > 1000);
+    assert!(compared.deep > 10_000);
     assert!(compared.reasons.iter().all(|&times| times > 100));
 }
 
 #[test]
 fn rivers_of_all_sizes_over_years() {
     let compared = compare_many(20_000..20_600, None, 40);
+    assert!(compared.deep > 1000);
     assert!(compared.reasons.iter().all(|&times| times > 1000));
 }
 
 #[test]
 fn rivers_at_the_limits() {
     let compared = compare_many(30_000..30_010, Some(Size::Limit), 30);
+    assert!(compared.deep > 50);
     assert!(compared.reasons.iter().all(|&times| times > 100));
 }
 

@@ -40,7 +40,7 @@ impl<'a> List<'a> {
         assert_eq!(self.tally.call(&runoff, report.len()), answer);
         assert_eq!(answer.0, 0);
         compare_board(&self.tally, &self.board);
-        compare_report(self.tally.months.last().unwrap(), &report, compared);
+        compare_report(&self.tally, self.tally.months.last().unwrap(), &report, compared);
         compared.calls += 1;
     }
 
@@ -80,7 +80,7 @@ impl<'a> List<'a> {
         let (calls, length) = (answer.1 as usize, self.river.basin.report_length());
         let past = &self.tally.months[self.tally.months.len() - calls..];
         for (past, report) in past.iter().zip(reports.chunks(length)) {
-            compare_report(past, report, compared);
+            compare_report(&self.tally, past, report, compared);
         }
         assert!(reports[length * calls..].iter().all(|&number| number == 77));
         years.runs[calls - 1] += 1;
@@ -107,13 +107,16 @@ fn compare_lists(seeds: std::ops::Range<u64>, size: Option<Size>, calls: usize) 
         }
     }
     println!(
-        "{} years' runs in lists of {} accepted month calls, {} refused, grants by reason {:?}",
+        "{} years' runs in lists of {} accepted month calls, {} with deep loss, {} refused, grants \
+         by reason {:?}",
         years.numbers.iter().sum::<usize>(),
         compared.calls,
+        compared.deep,
         compared.refused,
         compared.reasons
     );
     assert!(compared.reasons.iter().all(|&times| times > 100));
+    assert!(compared.deep > 1000);
     years
 }
 

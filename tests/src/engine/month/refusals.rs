@@ -20,7 +20,8 @@ pub fn judge_call<T: Telling>(
         runoff.len() == rows || (telling.slips(Slip::RunoffAtLeast) && runoff.len() > rows);
     let board_fits =
         board.len() == BOARD || (telling.slips(Slip::BoardAtLeast) && board.len() > BOARD);
-    let report_fits = report.len() >= report_length
+    let least = report_length - telling.slips(Slip::ReportWithoutDeepLoss) as usize;
+    let report_fits = report.len() >= least
         && !(telling.slips(Slip::ReportExact) && report.len() > report_length);
     if !runoff_fits || !board_fits || !report_fits {
         return Err(WRONG_LENGTH);

@@ -70,6 +70,8 @@ impl<T: Telling> Month<'_, T> {
         let grant = Grant { from_river, from_storage };
         if right.kind == DIRECT || right.kind == PROJECT {
             self.return_flow(right, &grant);
+        } else if self.slips(Slip::DeepLossWithoutPoints) {
+            self.deep_loss += grant.total();
         }
         let short = self.is_short(right, &grant, demand);
         let (reason, station) = self.reason(right, short, callers, low_row);

@@ -1,11 +1,12 @@
 //! What has to hold of a tally after every call.
 
-use super::Tally;
+use super::shares::deep_loss;
+use super::{PastMonth, Tally};
 use crate::engine::records::*;
 
 impl Tally {
     /// What came, by runoff and in the reservoirs at the start, is what left by the last
-    /// row, was consumed, evaporated, is on its way or is stored.
+    /// row, was consumed, evaporated, went deep, is on its way or is stored.
     pub(super) fn assert_water_sum(&self, basin: &Basin) {
         let mut came: i128 = basin.reservoirs.iter().map(|r| r.start as i128).sum();
         let mut went: i128 = self.storages.iter().sum();
@@ -19,6 +20,7 @@ impl Tally {
                     went += grant.total() * right.efficiency as i128 / 100;
                 }
             }
+            went += deep_loss_of_month(basin, month);
         }
         assert_eq!(came, went, "water sum after {} months", self.months.len());
     }
@@ -43,4 +45,15 @@ impl Tally {
             assert_eq!(storage, self.storages[lake], "account of reservoir {lake}");
         }
     }
+
+    /// The deep loss of a month of an accepted file, for comparison with its report.
+    pub fn deep_loss(&self, past: &PastMonth) -> i128 {
+        self.basin.as_ref().map_or(0, |basin| deep_loss_of_month(basin, past))
+    }
+}
+
+/// Worked out from what was granted (02, No. 5).
+fn deep_loss_of_month(basin: &Basin, past: &PastMonth) -> i128 {
+    let grants = basin.rights.iter().zip(&past.grants);
+    grants.map(|(right, grant)| deep_loss(basin, right, grant.total())).sum()
 }

@@ -5,7 +5,7 @@ use crate::examples::{october, OCTOBER_RUNOFF};
 
 fn after_one_month() -> Tally {
     let mut tally = Tally::new(&october().encode());
-    assert_eq!(tally.call(&OCTOBER_RUNOFF, 27), (0, 2));
+    assert_eq!(tally.call(&OCTOBER_RUNOFF, 28), (0, 2));
     tally
 }
 
@@ -14,7 +14,7 @@ fn after_one_month() -> Tally {
 fn water_that_vanishes_is_seen() {
     let mut tally = after_one_month();
     tally.months[0].flow[2] -= 1;
-    tally.call(&OCTOBER_RUNOFF, 27);
+    tally.call(&OCTOBER_RUNOFF, 28);
 }
 
 #[test]
@@ -23,6 +23,17 @@ fn water_that_appears_in_a_lake_is_seen() {
     let mut tally = after_one_month();
     tally.storages[0] += 1;
     tally.call(&[], 0); // refused, and asserted all the same
+}
+
+/// Of 1200 as much is consumed as of 1201, and nothing is on its way: one less has gone deep.
+#[test]
+#[should_panic(expected = "water sum")]
+fn deep_loss_that_vanishes_is_seen() {
+    let basin = Basin { patterns: vec![[0; MONTHS]], ..october() };
+    let mut tally = Tally::new(&basin.encode());
+    assert_eq!(tally.call(&OCTOBER_RUNOFF, 28).0, 0);
+    tally.months[0].grants[1].from_river -= 1;
+    tally.call(&[], 0);
 }
 
 #[test]
