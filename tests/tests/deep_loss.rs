@@ -11,6 +11,8 @@ use river_tests::engine::tally;
 use river_tests::examples::*;
 use river_tests::listing::listing;
 use river_tests::run::Run;
+use std::fs;
+use std::path::Path;
 
 /// Amount, percents, shares and deep loss.
 const SPLITS: &[(u32, &[u8], &[u64], u64)] = &[
@@ -115,6 +117,34 @@ fn october_with_its_pattern_cut() {
         assert_eq!((answer, report), ((0, 2), told.clone()));
         assert_eq!(board, after);
         assert_eq!((calls.stock)(&file, &board), [0, 0, 1026, 242]);
+    });
+}
+
+/// The last lines that `rivercalls` prints: October by other patterns.
+#[test]
+fn october_by_the_patterns_of_rivercalls() {
+    let folder = Path::new(env!("CARGO_MANIFEST_DIR")).join("../crates/rivercalls");
+    let text = fs::read_to_string(folder.join("stdout")).unwrap();
+    by_each(|calls| {
+        let mut lines = String::new();
+        for (name, percents) in [
+            ("50, 30, 20", &[50, 30, 20][..]),
+            ("50, 30", &[50, 30]),
+            ("zeros", &[]),
+            ("50, 30, 21", &[50, 30, 21]),
+            ("255, 100, 1", &[255, 100, 1]),
+        ] {
+            let file = Basin { patterns: vec![pattern(percents)], ..october() }.encode();
+            let (mut board, mut report) = (vec![0; BOARD], vec![0; 28]);
+            (calls.fresh)(&file, &mut board);
+            let answer = (calls.month)(&file, &OCTOBER_RUNOFF, &mut board, &mut report);
+            lines += &format!("month by {name}: {} {}\n", answer.0, answer.1);
+            if answer.0 == 0 {
+                let [.., storage, pending] = (calls.stock)(&file, &board);
+                lines += &format!("deep {}\nstock 0 0 {storage} {pending}\n", report[27]);
+            }
+        }
+        assert!(text.ends_with(&format!("\n{lines}")), "{lines}");
     });
 }
 
