@@ -48,8 +48,8 @@ module _ (pattern sums : List ℕ) (s : Sums pattern sums) where
   unfolding sumsOf
   sum-at k h = ap (λ (l : List ℕ). getD l k 0) (s .running) ∙ tab-at (λ j. upTo pattern (suc j)) 12 k 0 h
 
-  sum-most-at : (k : ℕ) → k < 12 → getD sums k 0 ≤ 100
-  sum-most-at k h = omega (arith, sum-at k h, upTo-le pattern (suc k), s .good .sum-most)
+  pub sums-most : (k : ℕ) → k < 12 → getD sums k 0 ≤ 100
+  sums-most k h = omega (arith, sum-at k h, upTo-le pattern (suc k), s .good .sum-most)
 
   sums-rise : (j k : ℕ) → j ≤ k → k < 12 → getD sums j 0 ≤ getD sums k 0
   sums-rise j k m h = omega (arith, sum-at j (omega arith), sum-at k h, upTo-rises pattern (suc j) (suc k) (omega arith))
@@ -72,7 +72,7 @@ module _ (pattern sums : List ℕ) (s : Sums pattern sums) where
     floors-rise k h = omega (arith, mul-le-mul-left a (sums-rise k (k + 1) (omega arith) (omega arith)))
 
     pub floor-le : (k : ℕ) → k < 12 → a * getD sums k 0 / 100 ≤ a
-    floor-le k h = omega (arith, mul-le-mul-left a (sum-most-at k h))
+    floor-le k h = omega (arith, mul-le-mul-left a (sums-most k h))
 
     -- where the sums no longer rise there are no more shares
     no-share : (k j : ℕ) → k ≤ j → j < 11 → getD sums k 0 ≡ getD sums 11 0 → getD (shares a pattern) (suc j) 0 ≡ 0

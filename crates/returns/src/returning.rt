@@ -6,6 +6,7 @@ ghost use Rattle.rules.specs.River.{returned};
 ghost use Rattle.records.specs.Table.{pathBy};
 ghost use Rattle.river.specs.Arrays.{CanReturn, Walked};
 ghost use Rattle.returns.specs.Returning.{CanGive, GaveBy};
+use crate::split::percent_of;
 use crate::split::split;
 use numbers::index;
 use numbers::wide8;
@@ -63,9 +64,9 @@ fn give_points(
     let mut deep: u64 = 0;
     for k in 0..points {
         let p = wide8(return_percent(rights, i, k));
-        let next = rest * (c + p) / 100;
+        let next = percent_of(rest, c + p);
         let row = index(return_row(rights, i, k));
-        let part = split(sums, next - before, row, board);
+        let part = split(&sums, next - before, row, board);
         give_share(below, flow, available, row, part.at_once);
         deep += part.deep;
         before = next;

@@ -20,7 +20,7 @@ dues-of-requires c κs = search needs
 split-months-requires : tie.Need-split-months-requires
 split-months-requires c κs =
     let b = c .before .before .before .before in
-    subst (λ (at : ℕ). CanSplit (b .args .sums) (b .args .a) at (now (b .args .board))) (sym (c .before .dues-of .ensures)) (b .pre .1)
+    subst (λ (at : ℕ). CanSplit (now (b .args .sums)) (b .args .a) at (now (b .args .board))) (sym (c .before .dues-of .ensures)) (b .pre .1)
 
 same-length : tie.Need-same-length
 same-length c = search needs
