@@ -30,7 +30,7 @@ use Rattle.filecheck.specs.Check.{bodiesVerdict, checkOf}
 use Rattle.filecheck.specs.Theorems.{AcceptedFacts, LakeAreas}
 use Rattle.sections.proofs.Parts.{laid}
 use Rattle.records.proofs.Counted.{rows-counted, reservoirs-counted, patterns-counted, rights-counted}
-use Rattle.records.proofs.Decoded.{reservoirs-are, reservoir-is, patterns-are, pattern-is, rights-are}
+use Rattle.records.proofs.Decoded.{reservoirs-are, reservoir-is, patterns-are, rights-are}
 use Rattle.records.proofs.Rows.{rows-are}
 use Rattle.filecheck.proofs.Faults.{check-refuses, check-goes-on, stations-clear, reservoirs-clear, patterns-clear, rights-clear}
 use Rattle.filerules.proofs.Cases.{all-consumed, returns-shared, few-points}

@@ -16,8 +16,8 @@ use Rattle.rules.specs.Accepted.{GoodPattern, Accepted}
 use Rattle.rules.specs.Basin.{Basin, rows}
 use Rattle.rules.specs.Month.{opening, nextMonth}
 use Rattle.rules.specs.Theorems.{mostDue}
-use Rattle.records.specs.Records.{rowsOf, stationsOf, reservoirCount, rightCount, patternCount, patternOf, patternsOf, sumsOf, sixteenSums, bodies}
-use Rattle.records.specs.Table.{tableOf}
+use Rattle.records.specs.Records.{rowsOf, stationsOf, reservoirCount, rightCount, patternCount, patternOf, patternsOf, bodies}
+use Rattle.records.specs.Table.{tableOf, sumsOf, sixteenSums}
 use Rattle.turns.specs.declared.lines.Totals.{Totals}
 use Rattle.turns.specs.Lines.{CanServe, Served}
 use Rattle.closing.specs.Losses.{Lost}

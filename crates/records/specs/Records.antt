@@ -1,11 +1,10 @@
 -- The records of the four bodies: where each field stands (01, "The basin file"), and the basin that they describe in the rules' words.
 -- A body holds as many records as fill it.
 use mathlib.Core.Bool.{cond}
-use mathlib.Core.List.{List, _++_}
-use Prim.Native.Nat.{ℕ, suc, _+_, _-_, _*_, _/_}
+use mathlib.Core.List.{List}
+use Prim.Native.Nat.{ℕ, _+_, _*_, _/_}
 use lib.Dec.{eqb}
-use lib.ListN.{length, replicate}
-use Rattle.general.specs.Sums.{upTo}
+use lib.ListN.{length}
 use Rattle.general.specs.Tables.{tab}
 use Rattle.rules.specs.Basin.{Station, Survey, Reservoir, direct, project, instream, storage, Right, Basin}
 use Rattle.rules.specs.Basin as rules
@@ -76,15 +75,6 @@ patternOf s p = tab 12 (percentAt s p)
 
 unfoldable pub patternsOf : List ℕ → List (List ℕ)
 patternsOf s = tab (patternCount s) (patternOf s)
-
--- The running sums of a pattern: the percents of all months up to each, that month included. A share is a difference of two of them, and what goes deep
--- is what the last of them leaves.
-unfoldable pub sumsOf : List ℕ → List ℕ
-sumsOf percents = tab 12 (λ k. upTo percents (suc k))
-
--- those of all patterns in a table of sixteen, with zeros in the places that the file leaves free
-unfoldable pub sixteenSums : List ℕ → List (List ℕ)
-sixteenSums s = tab (patternCount s) (λ p. sumsOf (patternOf s p)) ++ replicate (16 - patternCount s) (replicate 12 0)
 
 -- ---- rights, 76 bytes each: the plain fields, then an amount for each month, then room for four return points
 

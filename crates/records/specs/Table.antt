@@ -1,16 +1,17 @@
--- The rows below, as a table of 64 bytes that walks along a path look up.
+-- Tables that a month works with: the rows below, 64 bytes that walks along a path look up, and the patterns, as the split of a return reads them.
 use mathlib.Core.Bool.{cond}
 use mathlib.Core.List.{List, _++_}
 use mathlib.Core.Option.{Option, none, some}
 use mathlib.Core.Path.{_≡_}
-use Prim.Native.Nat.{ℕ, _-_, _≤_, _<_}
+use Prim.Native.Nat.{ℕ, suc, _-_, _≤_, _<_}
 use lib.Dec.{ltb}
 use lib.ListN.{length, getD, replicate}
 use Rattle.general.specs.Routes.{follow}
+use Rattle.general.specs.Sums.{upTo}
 use Rattle.general.specs.Tables.{tab}
 use Rattle.rules.specs.Basin.{Station}
 use Rattle.rules.specs.Path.{rowBelow}
-use Rattle.records.specs.Records.{rowsOf, stationsOf, reservoirCount, reservoirRecord}
+use Rattle.records.specs.Records.{rowsOf, stationsOf, reservoirCount, reservoirRecord, patternCount, patternOf}
 
 -- a row below by its number, none by 255
 unfoldable pub belowCode : Option ℕ → ℕ
@@ -51,3 +52,14 @@ pub record GoodRows (st rs : List ℕ) : Type 0 where
 pub record ReservoirsOn (t rs : List ℕ) : Type 0 where
   pub downhill : Downhill t
   pub row-in : (v : ℕ) → v < reservoirCount rs → (reservoirRecord rs v) .row < 64
+
+-- ---- patterns
+
+-- The running sums of a pattern: the percents of all months up to each, that month included. A share is a difference of two of them, and what goes deep
+-- is what the last of them leaves.
+unfoldable pub sumsOf : List ℕ → List ℕ
+sumsOf percents = tab 12 (λ k. upTo percents (suc k))
+
+-- those of all patterns in a table of sixteen, with zeros in the places that the file leaves free
+unfoldable pub sixteenSums : List ℕ → List (List ℕ)
+sixteenSums s = tab (patternCount s) (λ p. sumsOf (patternOf s p)) ++ replicate (16 - patternCount s) (replicate 12 0)

@@ -2,7 +2,8 @@
 ghost use mathlib.Core.Path.{_≡_};
 ghost use Prim.Native.Nat.{ℕ, _≤_, _<_};
 ghost use Rattle.general.specs.Sums.{sum};
-ghost use Rattle.records.specs.Records.{patternCount, patternOf, sumsOf, sixteenSums};
+ghost use Rattle.records.specs.Records.{patternCount, patternOf};
+ghost use Rattle.records.specs.Table.{sumsOf, sixteenSums};
 use numbers::bytes::byte_sum;
 
 // The sum of a pattern's percents.

@@ -11,7 +11,7 @@ use Rattle.general.specs.Sums.{sum, sumTo, upTo}
 use Rattle.general.proofs.Sums.{sumTo-front, sumTo-list, at-le-sum, upTo-le, upTo-rises}
 use Rattle.general.proofs.Tables.{tab-at}
 use Rattle.general.proofs.Tests.{by-eqb}
-use Rattle.records.specs.Records.{sumsOf}
+use Rattle.records.specs.Table.{sumsOf}
 use Rattle.rules.specs.Returns.{sharesFrom, shares, deepLoss}
 use Rattle.rules.proofs.Splits.{shares-deep, deep-le}
 use Rattle.returns.specs.declared.split.SplitPart.{SplitPart}

@@ -6,7 +6,7 @@ use mathlib.Core.Path.{_≡_}
 use Prim.Native.Nat.{ℕ, suc, _+_, _*_, _≤_, _<_}
 use lib.ListN.{length, getD}
 use Rattle.rules.specs.Returns.{shares, deepLoss}
-use Rattle.records.specs.Records.{sumsOf}
+use Rattle.records.specs.Table.{sumsOf}
 use Rattle.returns.specs.declared.split.SplitPart.{SplitPart}
 
 -- the running sums of a pattern

@@ -93,7 +93,7 @@ module _ (b : Basin) (pattern : List ℕ) where
       omega (arith, sumTo-front 11 all, twelve, shares-deep (q .amount) pattern (g .sum-most))
 
   all-parts : (qs : List Part) → GoodPattern pattern → PartsIn b qs → atOnce pattern qs + later b pattern qs + lostDeep pattern qs ≡ totalParts qs
-  unfolding atOnce totalParts lostDeep sumOver
+  unfolding atOnce totalParts lostDeep deepLoss sumOver
   all-parts [] g h = omega (arith, later-none)
   all-parts (q ∷ qs) g h = omega (arith, later-cons q qs (h .0), one-part q g, all-parts qs g (h .1))
 
@@ -166,8 +166,8 @@ module _ (b : Basin) (r : Right) where
   at-once-none pattern = refl
 
   deep-in-none : (pattern : List ℕ) → lostDeep pattern [] ≡ 0
-  unfolding lostDeep sumOver
-  deep-in-none pattern = refl
+  unfolding lostDeep deepLoss sumOver
+  deep-in-none pattern = omega arith
 
   none-spent : (k : Kind) (d : ℕ) → r .points ≡ [] → spent k d ≡ consumption k r d
   none-spent k d e = rw (no-parts k r d e) (omega (arith, at-once-none (patternOf b r), later-none b (patternOf b r), deep-in-none (patternOf b r)))

@@ -14,7 +14,8 @@ use Rattle.rules.specs.Basin.{Point, Kind, direct, project, instream, storage, 
 use Rattle.rules.specs.Returns.{percents}
 use Rattle.rules.specs.Accepted.{GoodPattern, GoodRight, ReservoirOk, ReturnsOk, Unreturned, Returned}
 use Rattle.records.specs.declared.rights.Kind.the-variants.{Project, Storage}
-use Rattle.records.specs.Records.{reservoirCount, sumsOf, returnRow, returnPercent, kindOf, rightOf}
+use Rattle.records.specs.Records.{reservoirCount, returnRow, returnPercent, kindOf, rightOf}
+use Rattle.records.specs.Table.{sumsOf}
 use Rattle.returns.specs.Dues.{Sums}
 use Rattle.returns.specs.Returning.{pointsUpTo, PointsOk}
 use Rattle.turns.proofs.Given.{RightAt, theRecord, thePoints, theSums, theRight}

@@ -12,8 +12,8 @@ use Rattle.rules.specs.Returns.{partsOf, returnedAt, lostDeep}
 use Rattle.rules.specs.Turn.{State, Grant, granted, Turn, turn}
 use Rattle.rules.specs.Month.{reasonNumber}
 use Rattle.rules.specs.Accepted.{Accepted, mostAmount}
-use Rattle.records.specs.Records.{stationsOf, reservoirsOf, sumsOf, rightsOf, rightCount, rightOf}
-use Rattle.records.specs.Table.{tableOf}
+use Rattle.records.specs.Records.{stationsOf, reservoirsOf, rightsOf, rightCount, rightOf}
+use Rattle.records.specs.Table.{tableOf, sumsOf}
 use Rattle.river.specs.Arrays.{levelsOf, RiverOk}
 use Rattle.grants.specs.declared.grants.Grant.{Grant as GrantMade}
 use Rattle.grants.specs.declared.grants.Reason.{Reason}

@@ -6,7 +6,8 @@ use borrow.Author.Needs.{needs}
 use denote.Ref.{now}
 use lib.ListN.{replicate}
 use Rattle.general.proofs.Fill.{filled, fill-none, fill-more}
-use Rattle.records.specs.Records.{patternCount, patternOf, sumsOf, sixteenSums}
+use Rattle.records.specs.Records.{patternCount, patternOf}
+use Rattle.records.specs.Table.{sumsOf, sixteenSums}
 use Rattle.records.proofs.patterns.decode_patterns.Statement.{statement}
 use Rattle.records.proofs.patterns.decode_patterns.Tie as tie
 

@@ -3,7 +3,6 @@
 use mathlib.Core.List.{List}
 use mathlib.Core.Path.{_≡_, refl, ap, _∙_}
 use Prim.Native.Nat.{ℕ, suc, _+_, _-_, _*_, _≤_, _<_}
-use native.Mathlib.Numerals.{add-one}
 use native.Mathlib.Omega.{arith}
 use borrow.Author.Needs.{needs}
 use denote.Ref.{now}
@@ -13,7 +12,8 @@ use Rattle.general.proofs.Fill.{filled, fill-none, fill-more, fill-done}
 use Rattle.general.proofs.Sums.{upTo-more, upTo-le}
 use Rattle.general.proofs.Tables.{tab-at}
 use Rattle.numbers.specs.Bytes.{byteAt}
-use Rattle.records.specs.Records.{percentAt, patternOf, sumsOf}
+use Rattle.records.specs.Records.{percentAt, patternOf}
+use Rattle.records.specs.Table.{sumsOf}
 use Rattle.records.proofs.patterns.running_sums.Statement.{statement}
 use Rattle.records.proofs.patterns.running_sums.Tie as tie
 
