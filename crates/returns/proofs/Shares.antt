@@ -86,8 +86,8 @@ module _ (pattern sums : List ℕ) (s : Sums pattern sums) where
     deep-left k e = rw (e ∙ last-sum)
 
 -- where a sum is not the last there is a next
-pub not-last : (sums : List ℕ) (k : ℕ) → k ≤ 11 → (getD sums k 0 ≡ getD sums 11 0 → ⊥) → k < 11
-not-last sums k m ne = by-eqb k 11 (λ _. k < 11) (λ e. absurd (ne (ap (λ (j : ℕ). getD sums j 0) e))) (λ e. omega arith)
+pub not-last : (sums : List ℕ) (whole k : ℕ) → whole ≡ getD sums 11 0 → k ≤ 11 → (getD sums k 0 ≡ whole → ⊥) → k < 11
+not-last sums whole k last m ne = by-eqb k 11 (λ _. k < 11) (λ e. absurd (ne (ap (λ (j : ℕ). getD sums j 0) e ∙ sym last))) (λ e. omega arith)
 
 -- ---- one turn of the loop
 

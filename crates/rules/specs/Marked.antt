@@ -19,7 +19,7 @@ use Rattle.rules.specs.Answers.{told}
 use Rattle.rules.specs.Tally.{Call, Start, Tally, fresh, begun, pending, nextRun, afterCalls, answers}
 use Rattle.rules.specs.Years.{YearRun, yearly, afterEntry, entryAnswer}
 use Rattle.rules.specs.Water.{totalRunoff, totalOutflow, totalConsumption, totalEvaporation, totalDeep, inTransit, startingStorage, startingDues}
-use Rattle.rules.specs.October.{plainRight, storageRight, returningRight, octoberStations, octoberReservoir, october, octoberCall}
+use Rattle.rules.specs.October.{allMonths, plainRight, storageRight, returningRight, octoberStations, octoberReservoir, october, octoberCall}
 
 abbrev pub level : ℕ → ℕ → Level
 level flow available = record { flow = pos flow; available = pos available }
@@ -152,7 +152,7 @@ seepingRight = record {
   reservoir = 255;
   efficiency = 0;
   pattern = 0;
-  months = 4095;
+  months = allMonths;
   limit = 0;
   amounts = replicate 12 2;
   points = record { row = 0; percent = 50 } ∷ record { row = 1; percent = 50 } ∷ [];

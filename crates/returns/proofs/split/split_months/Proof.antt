@@ -2,7 +2,7 @@
 use Rattle.returns.specs.Dues.{Sums, Lagged}
 use Rattle.returns.proofs.Shares.{sums-most, floors-rise, floor-le, not-last, lagged-none, lagged-more, lagged-le, split-done}
 use Prim.Native.Nat.{ℕ, _+_, _-_, _*_, _/_, _≤_}
-use mathlib.Core.Path.{_≡_, refl, sym, ap, _∙_}
+use mathlib.Core.Path.{_≡_, refl, ap, _∙_}
 use mathlib.Core.List.{List}
 use native.Mathlib.Omega.{arith}
 use borrow.Author.Needs.{needs}
@@ -46,7 +46,7 @@ element-copy-out-wide8-2 : tie.Need-element-copy-out-wide8-2 Inv-loop μ-loop
 element-copy-out-wide8-2 c =
     let b = c .before .before .before .before .before .before .before .before in
     let l = c .before .before .loop in
-    omega (arith, not-last (now (b .args .sums)) (l .k) (l .inv .1) (λ e. c .if1 .taken (e ∙ sym (l .inv .0))))
+    omega (arith, not-last (now (b .args .sums)) _ (l .k) (l .inv .0) (l .inv .1) (c .if1 .taken))
 
 wide8-requires-2 : tie.Need-wide8-requires-2 Inv-loop μ-loop
 wide8-requires-2 c κs = search needs
@@ -55,14 +55,14 @@ percent-of-requires-2 : tie.Need-percent-of-requires-2 Inv-loop μ-loop
 percent-of-requires-2 c κs =
     let b = c .before .before .before .before .before .before .before .before .before .before in
     let l = c .before .before .before .before .loop in
-    let n = not-last (now (b .args .sums)) (l .k) (l .inv .1) (λ e. c .before .before .if1 .taken (e ∙ sym (l .inv .0))) in
+    let n = not-last (now (b .args .sums)) _ (l .k) (l .inv .0) (l .inv .1) (c .before .before .if1 .taken) in
     (b .pre .small, omega (arith, c .wide82 .ensures .0, sums-most (b .pre .pattern) (now (b .args .sums)) (b .pre .by-sums) (l .k + 1) (omega (arith, n))))
 
 sub-dues : tie.Need-sub-dues Inv-loop μ-loop
 sub-dues c =
     let b = c .before .before .before .before .before .before .before .before .before .before .before in
     let l = c .before .before .before .before .before .loop in
-    let n = not-last (now (b .args .sums)) (l .k) (l .inv .1) (λ e. c .before .before .before .if1 .taken (e ∙ sym (l .inv .0))) in
+    let n = not-last (now (b .args .sums)) _ (l .k) (l .inv .0) (l .inv .1) (c .before .before .before .if1 .taken) in
     let e = c .percent-of2 .ensures ∙ ap (λ (x : ℕ). b .args .a * x / 100) (c .before .wide82 .ensures .0) in
     omega (arith, l .inv .2, e, floors-rise (b .pre .pattern) (now (b .args .sums)) (b .pre .by-sums) (b .args .a) (l .k) n)
 
@@ -76,7 +76,7 @@ slice-read-dues : tie.Need-slice-read-dues Inv-loop μ-loop
 slice-read-dues c =
     let b = c .before .before .before .before .before .before .before .before .before .before .before .before in
     let l = c .before .before .before .before .before .before .loop in
-    omega (arith, b .pre .on, l .inv .3 (b .pre .pattern) (b .pre .by-sums) .size, not-last (now (b .args .sums)) (l .k) (l .inv .1) (λ e. c .before .before .before .before .if1 .taken (e ∙ sym (l .inv .0))))
+    omega (arith, b .pre .on, l .inv .3 (b .pre .pattern) (b .pre .by-sums) .size, not-last (now (b .args .sums)) _ (l .k) (l .inv .0) (l .inv .1) (c .before .before .before .before .if1 .taken))
 
 add-dues-2 : tie.Need-add-dues-2 Inv-loop μ-loop
 add-dues-2 c =
@@ -84,7 +84,7 @@ add-dues-2 c =
     let a = b .args .a in
     let l = c .before .before .before .before .before .before .loop in
     let pt = b .pre .pattern in
-    let n = not-last (now (b .args .sums)) (l .k) (l .inv .1) (λ e. c .before .before .before .before .if1 .taken (e ∙ sym (l .inv .0))) in
+    let n = not-last (now (b .args .sums)) _ (l .k) (l .inv .0) (l .inv .1) (c .before .before .before .before .if1 .taken) in
     let e = c .before .percent-of2 .ensures ∙ ap (λ (x : ℕ). a * x / 100) (c .before .before .wide82 .ensures .0) in
     let w = lagged-le pt a (b .args .at) (now (b .args .dues)) (l .k) (l .dues) (b .pre .by-sums .good .sum-most) (l .inv .3 pt (b .pre .by-sums)) (b .args .at + l .k) in
     omega (arith, e, w, b .pre .small, b .pre .dues-roomy .room (b .args .at + l .k), floor-le pt (now (b .args .sums)) (b .pre .by-sums) a (l .k + 1) (omega (arith, n)))
@@ -93,7 +93,7 @@ slice-write-dues : tie.Need-slice-write-dues Inv-loop μ-loop
 slice-write-dues c =
     let b = c .before .before .before .before .before .before .before .before .before .before .before .before in
     let l = c .before .before .before .before .before .before .loop in
-    omega (arith, b .pre .on, l .inv .3 (b .pre .pattern) (b .pre .by-sums) .size, not-last (now (b .args .sums)) (l .k) (l .inv .1) (λ e. c .before .before .before .before .if1 .taken (e ∙ sym (l .inv .0))))
+    omega (arith, b .pre .on, l .inv .3 (b .pre .pattern) (b .pre .by-sums) .size, not-last (now (b .args .sums)) _ (l .k) (l .inv .0) (l .inv .1) (c .before .before .before .before .if1 .taken))
 
 add-k : tie.Need-add-k Inv-loop μ-loop
 add-k c = search needs
@@ -101,14 +101,14 @@ add-k c = search needs
 loop-less : tie.Need-loop-less Inv-loop μ-loop
 loop-less c =
     let l = c .before .before .before .before .before .before .loop in
-    omega (arith, not-last (now (c .before .before .before .before .before .before .before .before .before .before .before .before .args .sums)) (l .k) (l .inv .1) (λ e. c .before .before .before .before .if1 .taken (e ∙ sym (l .inv .0))))
+    omega (arith, not-last (now (c .before .before .before .before .before .before .before .before .before .before .before .before .args .sums)) _ (l .k) (l .inv .0) (l .inv .1) (c .before .before .before .before .if1 .taken))
 
 loop-again : tie.Need-loop-again Inv-loop μ-loop
 loop-again c =
     let b = c .before .before .before .before .before .before .before .before .before .before .before .before in
     let a = b .args .a in
     let l = c .before .before .before .before .before .before .loop in
-    let n = not-last (now (b .args .sums)) (l .k) (l .inv .1) (λ e. c .before .before .before .before .if1 .taken (e ∙ sym (l .inv .0))) in
+    let n = not-last (now (b .args .sums)) _ (l .k) (l .inv .0) (l .inv .1) (c .before .before .before .before .if1 .taken) in
     let e = c .before .percent-of2 .ensures ∙ ap (λ (x : ℕ). a * x / 100) (c .before .before .wide82 .ensures .0) in (
       l .inv .0,
       omega (arith, n),
