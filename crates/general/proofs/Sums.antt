@@ -5,7 +5,6 @@ use mathlib.Core.Bool.{Bool, true, false}
 use mathlib.Core.List.{List, [], _∷_, _++_, map}
 use Prim.Native.Nat.{ℕ, zero, suc, _+_, _≤_, _<_}
 use native.Mathlib.Nat.{le-of-suc-le-suc, not-suc-le-zero}
-use native.Mathlib.Numerals.{add-one}
 use native.Mathlib.Omega.{arith}
 use lib.Dec.{eqb}
 use lib.ListN.{length, getD, set}
@@ -77,10 +76,6 @@ sumTo-list [] = refl
 sumTo-list (x ∷ xs) = sumTo-front (length xs) (λ i. getD (x ∷ xs) i 0) ∙ omega (arith, sumTo-list xs)
 
 -- the first k numbers of a list
-pub upTo-more : (l : List ℕ) (k : ℕ) → upTo l (k + 1) ≡ upTo l k + getD l k 0
-unfolding sumTo
-upTo-more l k = rw (add-one k)
-
 pub upTo-le : (l : List ℕ) (k : ℕ) → upTo l k ≤ sum l
 unfolding sumTo sumOver
 upTo-le [] k = omega (arith, none k)
@@ -91,10 +86,11 @@ upTo-le [] k = omega (arith, none k)
 upTo-le (x ∷ xs) zero = omega arith
 upTo-le (x ∷ xs) (suc k) = omega (arith, upTo-le xs k, sumTo-front k (λ i. getD (x ∷ xs) i 0))
 
-pub upTo-rises : (l : List ℕ) (j k : ℕ) → j ≤ k → upTo l j ≤ upTo l k
+-- a sum over more is no less
+pub sumTo-rises : (f : ℕ → ℕ) (j k : ℕ) → j ≤ k → sumTo j f ≤ sumTo k f
 unfolding sumTo
-upTo-rises l j zero h = let e : j ≡ 0 = omega arith in rw e (omega arith)
-upTo-rises l j (suc k) h = by-eqb j (suc k) (λ _. upTo l j ≤ upTo l (suc k)) (λ e. rw e (omega arith)) (λ e. omega (arith, upTo-rises l j k (omega arith)))
+sumTo-rises f j zero h = let e : j ≡ 0 = omega arith in rw e (omega arith)
+sumTo-rises f j (suc k) h = by-eqb j (suc k) (λ _. sumTo j f ≤ sumTo (suc k) f) (λ e. rw e (omega arith)) (λ e. omega (arith, sumTo-rises f j k (omega arith)))
 
 -- one place only
 sumTo-none : (n r x : ℕ) → n ≤ r → sumTo n (λ i. only (eqb r i) x) ≡ 0

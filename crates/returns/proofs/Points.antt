@@ -11,7 +11,8 @@ use lib.ListN.{getD}
 use Rattle.general.specs.Sums.{sumOver, sum, sumTo, only}
 use Rattle.general.specs.Tables.{tab}
 use Rattle.general.specs.Tests.{has}
-use Rattle.general.proofs.Sums.{sum-append}
+use Rattle.general.proofs.Loops.{total-more}
+use Rattle.general.proofs.Sums.{sum-append, sumTo-rises}
 use Rattle.general.proofs.Tests.{by-eqb, only-le}
 use Rattle.places.specs.Board.{duesOf, duePlace, dueAt, roomy}
 use Rattle.rules.specs.River.{Level, along, returned}
@@ -50,24 +51,11 @@ lost-more pattern qs q = sum-append (λ (x : Part). deepLoss (x .amount) pattern
 
 -- ---- sums of percents
 
-pub points-none : (ri : List ℕ) (i : ℕ) → 0 ≡ pointsUpTo ri i 0
-unfolding sumTo
-points-none ri i = refl
-
-pub points-more : (ri : List ℕ) (i k : ℕ) → pointsUpTo ri i (k + 1) ≡ pointsUpTo ri i k + returnPercent ri i k
-unfolding sumTo
-points-more ri i k = rw (add-one k)
-
-points-le : (ri : List ℕ) (i k n : ℕ) → k ≤ n → pointsUpTo ri i k ≤ pointsUpTo ri i n
-unfolding sumTo
-points-le ri i k zero h = let e : k ≡ 0 = omega arith in rw e (omega arith)
-points-le ri i k (suc n) h = by-eqb k (suc n) (λ _. pointsUpTo ri i k ≤ pointsUpTo ri i (suc n)) (λ e. rw e (omega arith)) (λ e. omega (arith, points-le ri i k n (omega arith)))
-
 -- the sum with the percent of one more point, and what of the rest it takes
 module _ {t : List ℕ} {pa : List (List ℕ)} {ri : List ℕ} {back : Return} {f a bd : List ℕ} (o : CanGive t pa ri back f a bd)
     (k c p : ℕ) (on : k < back .points) (ec : c ≡ pointsUpTo ri (back .right) k) (ep : p ≡ returnPercent ri (back .right) k) where
   pub percents-in : c + p ≤ 100
-  percents-in = omega (arith, ec, ep, o .points-ok .percents, points-more ri (back .right) k, points-le ri (back .right) (k + 1) (back .points) (omega arith))
+  percents-in = omega (arith, ep, o .points-ok .percents, total-more (returnPercent ri (back .right)) k c ec, sumTo-rises (returnPercent ri (back .right)) (k + 1) (back .points) (omega arith))
 
   pub next-small : back .amount * (c + p) ≤ mostAmount * 100
   next-small = mul-le-mul (o .small) percents-in

@@ -8,7 +8,7 @@ use native.Mathlib.Decide.{decLt}
 use lib.ListN.{length, getD, set, length-set}
 use lib.Seq.{getD-set-same, getD-set-other}
 use Rattle.general.specs.Sums.{sum, sumTo, upTo}
-use Rattle.general.proofs.Sums.{sumTo-front, sumTo-list, at-le-sum, upTo-le, upTo-rises}
+use Rattle.general.proofs.Sums.{sumTo-front, sumTo-list, at-le-sum, upTo-le, sumTo-rises}
 use Rattle.general.proofs.Tables.{tab-at}
 use Rattle.general.proofs.Tests.{by-eqb}
 use Rattle.records.specs.Table.{sumsOf}
@@ -52,7 +52,7 @@ module _ (pattern sums : List ℕ) (s : Sums pattern sums) where
   sums-most k h = omega (arith, sum-at k h, upTo-le pattern (suc k), s .good .sum-most)
 
   sums-rise : (j k : ℕ) → j ≤ k → k < 12 → getD sums j 0 ≤ getD sums k 0
-  sums-rise j k m h = omega (arith, sum-at j (omega arith), sum-at k h, upTo-rises pattern (suc j) (suc k) (omega arith))
+  sums-rise j k m h = omega (arith, sum-at j (omega arith), sum-at k h, sumTo-rises (λ i. getD pattern i 0) (suc j) (suc k) (omega arith))
 
   -- the last of them is the sum of the pattern
   last-sum : getD sums 11 0 ≡ sum pattern

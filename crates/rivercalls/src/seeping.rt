@@ -6,6 +6,7 @@ use crate::saying::say_stock;
 use fresh::fresh;
 use month::month;
 use places::board::BOARD_LENGTH;
+use places::report::deep_place;
 
 // October's only pattern begins at byte 124.
 const PATTERN: usize = 124;
@@ -29,7 +30,7 @@ fn run(file: &[u8], what: &[u8]) {
     let number = answer.number;
     say(what, answer);
     if number == 0 {
-        say_one(b"deep", report[27]);
+        say_one(b"deep", report[deep_place(5, 3, 1)]);
         say_stock(file, &board);
     }
 }

@@ -1,15 +1,16 @@
 -- `records::patterns::running_sums` meets its contract. The loop's invariant: the first k places hold their sums, and the sum so far is that of k percents.
 -- Assumes nothing.
 use mathlib.Core.List.{List}
-use mathlib.Core.Path.{_≡_, refl, ap, _∙_}
+use mathlib.Core.Path.{_≡_, ap, _∙_}
 use Prim.Native.Nat.{ℕ, suc, _+_, _-_, _*_, _≤_, _<_}
 use native.Mathlib.Omega.{arith}
 use borrow.Author.Needs.{needs}
 use denote.Ref.{now}
 use lib.ListN.{getD}
-use Rattle.general.specs.Sums.{upTo, sumTo}
+use Rattle.general.specs.Sums.{upTo}
 use Rattle.general.proofs.Fill.{filled, fill-none, fill-more, fill-done}
-use Rattle.general.proofs.Sums.{upTo-more, upTo-le}
+use Rattle.general.proofs.Loops.{total-none, total-more}
+use Rattle.general.proofs.Sums.{upTo-le}
 use Rattle.general.proofs.Tables.{tab-at}
 use Rattle.numbers.specs.Bytes.{byteAt}
 use Rattle.records.specs.Records.{percentAt, patternOf}
@@ -28,8 +29,7 @@ abbrev μ-loop : tie.MeasureT-loop
 μ-loop patterns p sums₀ so-far₀ k₀ sums so-far k = 12 - k
 
 loop-holds : tie.Need-loop-holds Inv-loop μ-loop
-unfolding sumTo
-loop-holds c = (search needs, refl, fill-none (λ j. upTo (patternOf (now (c .args .patterns)) (c .args .p)) (suc j)) 0 12)
+loop-holds c = (search needs, total-none _, fill-none (λ j. upTo (patternOf (now (c .args .patterns)) (c .args .p)) (suc j)) 0 12)
 
 mul-so-far : tie.Need-mul-so-far Inv-loop μ-loop
 mul-so-far c = search needs
@@ -45,7 +45,7 @@ add-so-far-2 c =
     let s = now (c .before .before .before .args .patterns) in
     let p = c .before .before .before .args .p in
     let l = c .before .before .loop in
-    omega (arith, l .inv .1, percent-is s p (l .k) (omega arith), upTo-more (patternOf s p) (l .k), upTo-le (patternOf s p) (l .k + 1), c .before .before .before .pre .1)
+    omega (arith, percent-is s p (l .k) (omega arith), total-more (λ j. getD (patternOf s p) j 0) (l .k) (l .so-far) (l .inv .1), upTo-le (patternOf s p) (l .k + 1), c .before .before .before .pre .1)
 
 array-write-sums : tie.Need-array-write-sums Inv-loop μ-loop
 array-write-sums c = search needs
@@ -61,7 +61,7 @@ loop-again c =
     let s = now (c .before .before .before .args .patterns) in
     let p = c .before .before .before .args .p in
     let l = c .before .before .loop in
-    let e : l .so-far + byteAt s (12 * p + l .k) ≡ upTo (patternOf s p) (l .k + 1) = omega (arith, l .inv .1, percent-is s p (l .k) (omega arith), upTo-more (patternOf s p) (l .k)) in
+    let e : l .so-far + byteAt s (12 * p + l .k) ≡ upTo (patternOf s p) (l .k + 1) = omega (arith, percent-is s p (l .k) (omega arith), total-more (λ j. getD (patternOf s p) j 0) (l .k) (l .so-far) (l .inv .1)) in
     (omega arith, e, fill-more (λ j. upTo (patternOf s p) (suc j)) 0 12 _ _ _ (omega arith) (e ∙ ap (upTo (patternOf s p)) (omega arith)) (l .inv .2))
 
 returns : tie.Need-returns Inv-loop μ-loop

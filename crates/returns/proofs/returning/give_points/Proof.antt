@@ -6,11 +6,12 @@ use native.Mathlib.Omega.{arith}
 use borrow.Author.Needs.{needs}
 use denote.Ref.{now}
 use Rattle.rules.specs.Returns.{Part}
-use Rattle.records.specs.Records.{returnRow}
+use Rattle.general.proofs.Loops.{total-none, total-more}
+use Rattle.records.specs.Records.{returnRow, returnPercent}
 use Rattle.returns.specs.Dues.{Sums}
 use Rattle.returns.specs.Returning.{pointsUpTo, partIn, Gave}
 use Rattle.returns.proofs.Shares.{split-le}
-use Rattle.returns.proofs.Points.{points-none, points-more, percents-in, next-small, amount-is, part-is, can-return, gave-none, gave-more, river-after}
+use Rattle.returns.proofs.Points.{percents-in, next-small, amount-is, part-is, can-return, gave-none, gave-more, river-after}
 use Rattle.returns.proofs.returning.give_points.Statement.{statement}
 use Rattle.returns.proofs.returning.give_points.Tie as tie
 
@@ -30,7 +31,7 @@ array-copy-out-sums c = omega (arith, c .before .before .pre .0 .points-ok .know
 loop-holds : tie.Need-loop-holds Inv-loop μ-loop
 loop-holds c =
     let b = c .before .before .before in
-    (omega arith, points-none (now (b .args .rights)) (b .args .back .right), omega arith, λ pattern s. gave-none _ _ _ _ _ _ _ _ (b .pre .0 .river .within))
+    (omega arith, total-none (returnPercent (now (b .args .rights)) (b .args .back .right)), omega arith, λ pattern s. gave-none _ _ _ _ _ _ _ _ (b .pre .0 .river .within))
 
 return-percent-requires : tie.Need-return-percent-requires Inv-loop μ-loop
 return-percent-requires c κs = (c .before .before .before .before .before .pre .0 .points-ok .right-in, omega (arith, c .before .before .before .before .before .pre .0 .points-ok .few))
@@ -137,7 +138,7 @@ loop-again c =
     let q : Part = record { row = row; amount = amount } in
     let x = c .before .before .before .before .before .before .split in (
       omega arith,
-      omega (arith, l .inv .1, pe, points-more ri i (l .k)),
+      omega (arith, pe, total-more (returnPercent ri i) (l .k) (l .c) (l .inv .1)),
       ne,
       λ pattern s. gave-more (now (b .args .below)) pattern ri i rest (now (b .args .flow)) (now (b .args .available)) (now (b .args .board))
           (l .k) (l .flow) (l .available) (l .board) (l .deep) (l .inv .3 pattern s) (omega (arith, o .points-ok .few))
