@@ -1,12 +1,12 @@
 -- What a possible board holds, and what makes a board possible. Assumes nothing.
 use mathlib.Core.Bool.{Bool, true, false}
-use mathlib.Core.List.{List}
-use mathlib.Core.Path.{_≡_, ap}
+use mathlib.Core.List.{List, []}
+use mathlib.Core.Path.{_≡_, ap, _∙_}
 use Prim.Native.Nat.{ℕ, suc, _^_, _≤_, _<_}
 use native.Mathlib.Decide.{decLt}
 use native.Mathlib.Omega.{arith}
 use lib.Dec.{ltb}
-use lib.ListN.{length, List·getD-eq-default}
+use lib.ListN.{length, getD, List·getD-eq-default}
 use Rattle.general.specs.Sums.{only}
 use Rattle.general.proofs.Lists.{all-at-place}
 use Rattle.general.proofs.Search.{all-at, all-make}
@@ -16,33 +16,45 @@ use Rattle.rules.specs.Accepted.{Accepted, GoodReservoir, GoodRight}
 use Rattle.rules.specs.Month.{Carried}
 use Rattle.rules.specs.Theorems.{mostDue}
 use Rattle.rules.proofs.Bounds.{CarriedCapped}
-use Rattle.places.specs.Board.{monthAt, storageAt, marksAt, takenAt, dueAt, boardLength}
-use Rattle.boards.specs.Board.{boardOf, possible}
+use Rattle.rules.proofs.Noting.{Noted}
+use Rattle.places.specs.Board.{monthAt, storageAt, marksAt, takenAt, dueAt, wordAt, boardLength}
+use Rattle.boards.specs.Board.{wordOf, boardOf, possible}
 use Rattle.boards.specs.Bodies.{Bounded}
-use Rattle.boards.proofs.Board.{month-place, storage-place, marks-place, taken-place, due-place, word-less}
+use Rattle.boards.proofs.Board.{month-place, storage-place, marks-place, taken-place, due-place, word-place, word-none, word-less}
 
 -- ---- what a possible board holds at most; nothing at places that the basin does not have
 
 module _ (b : Basin) (bd : List ℕ) (can : possible b bd ≡ true) where
   pub month-most : monthAt bd < 12
   unfolding possible
-  month-most = lt-of {m = monthAt bd} {n = 12} ((both-of ((both-of ((both-of ((both-of can) .0)) .0)) .0)) .0)
+  month-most = lt-of {m = monthAt bd} {n = 12} ((both-of ((both-of ((both-of ((both-of ((both-of can) .0)) .0)) .0)) .0)) .0)
 
   pub storage-most : (v : ℕ) → v < 8 → storageAt bd v ≤ (reservoirAt b v) .capacity
   unfolding possible
-  storage-most v h = le-of {m = storageAt bd v} {n = (reservoirAt b v) .capacity} (all-at 8 _ ((both-of ((both-of ((both-of ((both-of can) .0)) .0)) .0)) .1) v h)
+  storage-most v h = le-of {m = storageAt bd v} {n = (reservoirAt b v) .capacity} (all-at 8 _ ((both-of ((both-of ((both-of ((both-of ((both-of can) .0)) .0)) .0)) .0)) .1) v h)
 
   pub marks-most : marksAt bd < 2 ^ length (b .reservoirs)
   unfolding possible
-  marks-most = lt-of {m = marksAt bd} {n = 2 ^ length (b .reservoirs)} ((both-of ((both-of ((both-of can) .0)) .0)) .1)
+  marks-most = lt-of {m = marksAt bd} {n = 2 ^ length (b .reservoirs)} ((both-of ((both-of ((both-of ((both-of can) .0)) .0)) .0)) .1)
 
   pub taken-most : (i : ℕ) → i < 256 → takenAt bd i ≤ (rightAt b i) .limit
   unfolding possible
-  taken-most i h = le-of {m = takenAt bd i} {n = (rightAt b i) .limit} (all-at 256 _ ((both-of ((both-of can) .0)) .1) i h)
+  taken-most i h = le-of {m = takenAt bd i} {n = (rightAt b i) .limit} (all-at 256 _ ((both-of ((both-of ((both-of can) .0)) .0)) .1) i h)
 
   pub due-most : (w k : ℕ) → w < 64 → k < 11 → dueAt bd w (suc k) ≤ only (ltb w (rows b)) (mostDue (suc k))
   unfolding possible
-  due-most w k h l = le-of {m = dueAt bd w (suc k)} {n = only (ltb w (rows b)) (mostDue (suc k))} (all-at 11 _ (all-at 64 _ ((both-of can) .1) w h) k l)
+  due-most w k h l = le-of {m = dueAt bd w (suc k)} {n = only (ltb w (rows b)) (mostDue (suc k))} (all-at 11 _ (all-at 64 _ ((both-of ((both-of can) .0)) .1) w h) k l)
+
+  word-most : (i : ℕ) → i < 256 → wordAt bd i < 2 ^ only (ltb i (length (b .rights))) 12
+  unfolding possible
+  word-most i h = lt-of {m = wordAt bd i} {n = 2 ^ only (ltb i (length (b .rights))) 12} (all-at 256 _ ((both-of can) .1) i h)
+
+  pub word-small : (i : ℕ) → i < 256 → wordAt bd i < 4096
+  word-small i h = omega (arith, word-most i h, twelve (ltb i (length (b .rights))))
+    where
+      twelve : (t : Bool) → 2 ^ only t 12 ≤ 4096
+      twelve true = omega arith
+      twelve false = omega arith
 
   pub no-storage : (v : ℕ) → v < 8 → length (b .reservoirs) ≤ v → storageAt bd v ≡ 0
   no-storage v h l = omega (arith, storage-most v h, ap (λ (x : Reservoir). x .capacity) (List·getD-eq-default (b .reservoirs) noReservoir {n = v} l))
@@ -52,6 +64,9 @@ module _ (b : Basin) (bd : List ℕ) (can : possible b bd ≡ true) where
 
   pub no-due : (w k : ℕ) → w < 64 → k < 11 → rows b ≤ w → dueAt bd w (suc k) ≡ 0
   no-due w k h l o = omega (arith, due-most w k h l, ap (λ (t : Bool). only t (mostDue (suc k))) (ltb-no w (rows b) o))
+
+  pub no-word : (i : ℕ) → i < 256 → length (b .rights) ≤ i → wordAt bd i ≡ 0
+  no-word i h l = omega (arith, word-most i h, ap (λ (t : Bool). 2 ^ only t 12) (ltb-no i (length (b .rights)) l))
 
 -- ---- the limits of an accepted file, at any place
 
@@ -80,7 +95,7 @@ module _ (b : Basin) (acc : Accepted b) where
 
 -- ---- a board is possible if what it carries is within bounds and its dues are
 
-module _ (b : Basin) (c : Carried) (due : ℕ → ℕ → ℕ) (in-year : c .m < 12) (capped : CarriedCapped b c) (dues : (w k : ℕ) → w < rows b → k < 11 → due w (suc k) ≤ mostDue (suc k)) where
+module _ (b : Basin) (c : Carried) (due : ℕ → ℕ → ℕ) (in-year : c .m < 12) (capped : CarriedCapped b c) (shorts : Noted b (c .shorts)) (dues : (w k : ℕ) → w < rows b → k < 11 → due w (suc k) ≤ mostDue (suc k)) where
   abbrev l : List ℕ
   l = boardOf b c due
 
@@ -95,12 +110,32 @@ module _ (b : Basin) (c : Carried) (due : ℕ → ℕ → ℕ) (in-year : c .m <
           let e : ltb w (rows b) ≡ false = ltb-no w (rows b) (omega (arith, y)) in
           omega (arith, due-place b c due w k h o, ap (λ (t : Bool). only t (due w (suc k))) e)
 
+  word-within : (i : ℕ) → i < 256 → wordAt l i < 2 ^ only (ltb i (length (b .rights))) 12
+  word-within i h = pick (decLt i (length (b .rights)))
+    where
+      pick : Dec (i < length (b .rights)) → wordAt l i < 2 ^ only (ltb i (length (b .rights))) 12
+      pick (yes y) = omega (
+        arith,
+        word-place b c due i h,
+        word-less (getD (c .shorts) i []),
+        ap (λ (n : ℕ). 2 ^ n) (shorts .months i y),
+        ap (λ (t : Bool). 2 ^ only t 12) (ltb-yes i (length (b .rights)) y),
+      )
+      pick (no y) =
+          let past : length (c .shorts) ≤ i = omega (arith, y, shorts .count) in
+          omega (
+            arith,
+            word-place b c due i h ∙ ap wordOf (List·getD-eq-default (c .shorts) [] {n = i} past) ∙ word-none,
+            ap (λ (t : Bool). 2 ^ only t 12) (ltb-no i (length (b .rights)) (omega (arith, y))),
+          )
+
   pub board-possible : possible b l ≡ true
   unfolding possible
   board-possible =
-      and-of (and-of (and-of (and-of
+      and-of (and-of (and-of (and-of (and-of
       (ltb-yes (monthAt l) 12 (omega (arith, month-place b c due, in-year)))
       (all-make 8 _ (λ v h. leb-yes (storageAt l v) ((reservoirAt b v) .capacity) (omega (arith, storage-place b c due v h, capped .storages-most v)))))
       (ltb-yes (marksAt l) (2 ^ length (b .reservoirs)) (omega (arith, marks-place b c due, rw (capped .marks-count) at (word-less (c .marks))))))
       (all-make 256 _ (λ i h. leb-yes (takenAt l i) ((rightAt b i) .limit) (omega (arith, taken-place b c due i h, capped .taken-most i)))))
-      (all-make 64 _ (λ w h. all-make 11 _ (λ k m. leb-yes _ _ (due-within w k h m))))
+      (all-make 64 _ (λ w h. all-make 11 _ (λ k m. leb-yes _ _ (due-within w k h m)))))
+      (all-make 256 _ (λ i h. ltb-yes _ _ (word-within i h)))

@@ -1,4 +1,4 @@
--- A board of a basin: what it tells, when it is possible, and its sums (01, "The board and one month"). Where each number stands is said in `places`.
+-- A board of a basin: what it tells, when it is possible, and its sums (01, "The board and one month"; 02, No. 6). Where each number stands is said in `places`.
 use mathlib.Core.Bool.{Bool}
 use mathlib.Core.List.{List, [], _∷_}
 use Prim.Native.Nat.{ℕ, suc, _+_, _*_, _^_}
@@ -7,7 +7,7 @@ use lib.ListN.{length, getD}
 use Rattle.general.specs.Sums.{sumTo, only}
 use Rattle.general.specs.Tables.{tab}
 use Rattle.general.specs.Tests.{_and_, allTo, bit}
-use Rattle.places.specs.Board.{boardLength, monthAt, storageAt, marksAt, takenAt, dueAt, Parts, boardBy}
+use Rattle.places.specs.Board.{boardLength, monthAt, storageAt, marksAt, takenAt, dueAt, wordAt, Parts, boardBy}
 use Rattle.rules.specs.Basin.{Basin, rows, reservoirAt, rightAt}
 use Rattle.rules.specs.Month.{Carried}
 use Rattle.rules.specs.Theorems.{mostDue}
@@ -20,6 +20,7 @@ carriedOf b l = record {
   storages = tab (length (b .reservoirs)) (storageAt l);
   marks = tab (length (b .reservoirs)) (bit (marksAt l));
   taken = tab (length (b .rights)) (takenAt l);
+  shorts = tab (length (b .rights)) (λ i. tab 12 (bit (wordAt l i)));
 }
 
 -- ---- written
@@ -37,6 +38,7 @@ boardParts b c due = record {
   marks = wordOf (c .marks);
   taken = λ i. getD (c .taken) i 0;
   due = λ w k. only (ltb w (rows b)) (due w k);
+  word = λ i. wordOf (getD (c .shorts) i []);
 }
 
 unfoldable pub boardOf : Basin → Carried → (ℕ → ℕ → ℕ) → List ℕ
@@ -55,6 +57,7 @@ possible b l =
     and ltb (marksAt l) (2 ^ length (b .reservoirs))
     and allTo 256 (λ i. leb (takenAt l i) ((rightAt b i) .limit))
     and allTo 64 (λ w. allTo 11 (λ k. leb (dueAt l w (suc k)) (only (ltb w (rows b)) (mostDue (suc k)))))
+    and allTo 256 (λ i. ltb (wordAt l i) (2 ^ only (ltb i (length (b .rights))) 12))
 
 -- ---- its sums
 

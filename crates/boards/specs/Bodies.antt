@@ -2,15 +2,15 @@
 use mathlib.Core.Path.{_≡_}
 use mathlib.Core.Bool.{Bool}
 use mathlib.Core.List.{List}
-use Prim.Native.Nat.{ℕ, suc, _+_, _-_, _≤_, _<_}
-use lib.Dec.{leb, ltb, eqb}
+use Prim.Native.Nat.{ℕ, suc, _+_, _^_, _≤_, _<_}
+use lib.Dec.{leb, ltb}
 use lib.ListN.{length, getD}
 use Rattle.general.specs.Sums.{only}
 use Rattle.general.specs.Tests.{allTo}
 use Rattle.rules.specs.Basin.{noReservoir, noRight}
 use Rattle.rules.specs.Theorems.{mostDue}
 use Rattle.records.specs.Records.{rowsOf, reservoirCount, reservoirsOf, rightCount, rightsOf}
-use Rattle.places.specs.Board.{boardLength, storageAt, takenAt, dueAt}
+use Rattle.places.specs.Board.{boardLength, storageAt, takenAt, dueAt, wordAt}
 
 -- ---- what each place may hold: 0 where there is no reservoir, right or row
 
@@ -20,10 +20,6 @@ storageMost rs v = (getD (reservoirsOf rs) v noReservoir) .capacity
 unfoldable pub takenMost : List ℕ → ℕ → ℕ
 takenMost ri i = (getD (rightsOf ri) i noRight) .limit
 
--- in a basin of n rows
-unfoldable pub dueMost : ℕ → ℕ → ℕ → ℕ
-dueMost n w k = only (ltb w n) (mostDue (suc k))
-
 -- ---- whether each part of a board is possible
 
 unfoldable pub storagesOk : List ℕ → List ℕ → Bool
@@ -32,18 +28,25 @@ storagesOk rs board = allTo 8 (λ v. leb (storageAt board v) (storageMost rs v))
 unfoldable pub takenOk : List ℕ → List ℕ → Bool
 takenOk ri board = allTo 256 (λ i. leb (takenAt board i) (takenMost ri i))
 
--- its two parts: the rights that there are, and the places past n rights
+-- in a basin of n rows
+unfoldable pub duesOk : ℕ → List ℕ → Bool
+duesOk n board = allTo 64 (λ w. allTo 11 (λ k. leb (dueAt board w (suc k)) (only (ltb w n) (mostDue (suc k)))))
+
+-- in a basin of n rights
+unfoldable pub wordsOk : ℕ → List ℕ → Bool
+wordsOk n board = allTo 256 (λ i. ltb (wordAt board i) (2 ^ only (ltb i n) 12))
+
+-- ---- their parts: the rights and rows that there are, and the places past them, which have no bit
+
 unfoldable pub heldOk : List ℕ → List ℕ → Bool
 heldOk ri board = allTo (rightCount ri) (λ i. leb (takenAt board i) (takenMost ri i))
 
-unfoldable pub unusedOk : ℕ → List ℕ → Bool
-unusedOk n board = allTo (256 - n) (λ j. eqb (takenAt board (n + j)) 0)
+unfoldable pub rowOk : List ℕ → ℕ → Bool
+rowOk board w = allTo 11 (λ k. leb (dueAt board w (suc k)) (mostDue (suc k)))
 
-unfoldable pub rowOk : ℕ → List ℕ → ℕ → Bool
-rowOk n board w = allTo 11 (λ k. leb (dueAt board w (suc k)) (dueMost n w k))
-
-unfoldable pub duesOk : ℕ → List ℕ → Bool
-duesOk n board = allTo 64 (rowOk n board)
+-- n numbers from a place on have k bits
+unfoldable pub haveBits : ℕ → List ℕ → ℕ → ℕ → Bool
+haveBits k board from n = allTo n (λ j. ltb (getD board (from + j) 0) (2 ^ k))
 
 -- ---- what an accepted file gives, and with it a board of the right length
 

@@ -1,3 +1,4 @@
+pub mod Noted
 pub mod Surveyed
 pub mod Evaporating
 pub mod Rows

@@ -13,6 +13,7 @@ use Rattle.places.specs.Report.{flowPlace, availablePlace, rowsEnd, deepPlace}
 use Rattle.rules.specs.Month.{nextMonth}
 use Rattle.records.specs.Records.{reservoirCount}
 use Rattle.closing.specs.Losses.{Lost}
+use Rattle.closing.specs.Noting.{WordsNoted}
 use Rattle.closing.specs.Closing.{CanTell, RowsTold, Ended}
 
 module _ (n h : ℕ) (f a rp : List ℕ) (c : CanTell n h rp) where
@@ -70,14 +71,16 @@ module _ (n h : ℕ) (f a rp : List ℕ) (c : CanTell n h rp) where
 
 -- ---- the end of a month, by what its steps promise
 
-pub ended-of : (rs : List ℕ) (n h : ℕ) (f a : List ℕ) (deep : ℕ) (bd rp told lowered lost : List ℕ) (m x : ℕ) {at last : ℕ} → RowsTold n h f a rp told → m ≡ monthAt bd → at ≡ rowsEnd n h
-    → Lost rs m (reservoirCount rs) bd told at lowered lost → last ≡ deepPlace n h (reservoirCount rs) → x ≡ nextMonth (monthAt bd) → Ended rs n h f a deep bd rp (set lowered monthPlace x) (set lost last deep)
-ended-of rs n h f a deep bd rp told lowered lost m x r e q l d g = record {
+pub ended-of : (rs : List ℕ) (n h : ℕ) (f a : List ℕ) (deep : ℕ) (bd rp noted told lowered lost : List ℕ) (m x : ℕ) {at last : ℕ} → WordsNoted (monthAt bd) n rp bd noted → RowsTold n h f a rp told → m ≡ monthAt bd → at ≡ rowsEnd n h
+    → Lost rs m (reservoirCount rs) noted told at lowered lost → last ≡ deepPlace n h (reservoirCount rs) → x ≡ nextMonth (monthAt bd) → Ended rs n h f a deep bd rp (set lowered monthPlace x) (set lost last deep)
+ended-of rs n h f a deep bd rp noted told lowered lost m x w r e q l d g = record {
+  noted = noted;
+  words-noted = w;
   told = told;
   rows-told = r;
   lowered = lowered;
   losses-told = lost;
-  lost = subst (λ (y : ℕ). Lost rs y (reservoirCount rs) bd told (rowsEnd n h) lowered lost) e (subst (λ (y : ℕ). Lost rs m (reservoirCount rs) bd told y lowered lost) q l);
+  lost = subst (λ (y : ℕ). Lost rs y (reservoirCount rs) noted told (rowsEnd n h) lowered lost) e (subst (λ (y : ℕ). Lost rs m (reservoirCount rs) noted told y lowered lost) q l);
   deep-told = ap (λ (p : ℕ). set lost p deep) d;
   gone-on = ap (set lowered monthPlace) g;
 }

@@ -1,2 +1,3 @@
 pub mod Losses
+pub mod Noting
 pub mod Closing

@@ -1,9 +1,10 @@
-// Steps 4 and 5 of a month: the rows as the last right left them, the evaporation, what went deep, the next month.
+// Steps 4 and 5 of a month: who was short, the rows as the last right left them, the evaporation, what went deep, the next month.
 ghost use mathlib.Core.Path.{_≡_};
 ghost use Prim.Native.Nat.{_<_};
 ghost use Rattle.rules.specs.Month.{nextMonth};
 ghost use Rattle.closing.specs.Closing.{CanTell, RowsTold, CanEnd, Ended};
 use crate::losses::evaporate;
+use crate::noting::note_shorts;
 use places::board::MONTH;
 use places::report::AVAILABLE;
 use places::report::deep_place;
@@ -11,6 +12,7 @@ use places::report::flow_place;
 use places::report::rows_end;
 
 pub mod losses;
+pub mod noting;
 
 // Flow and available flow of the rows, after the lines of n rights.
 fn put_rows(n: usize, rows: usize, flow: &[u64; 64], available: &[u64; 64], report: &mut [u64])
@@ -58,6 +60,7 @@ pub fn end(
     ensures { λ _. ⌜ Ended (now (reservoirs .entry)) n rows (now (flow .entry)) (now (available .entry)) deep (now (board .entry)) (now (report .entry)) (now (board .exit)) (now (report .exit)) ⌝ }
 {
     let m = board[MONTH];
+    note_shorts(n, m, board, report);
     put_rows(n, rows, flow, available, report);
     evaporate(reservoirs, in_year(m), board, report, rows_end(n, rows));
     report[deep_place(n, rows, reservoirs.len() / 68)] = deep;

@@ -1,6 +1,6 @@
 -- The board with the starting storages is the fresh board. Assumes nothing.
 use Rattle.boards.proofs.Bounds.{board-possible}
-use Rattle.rules.proofs.Possible.{capped-of, fresh-possible}
+use Rattle.rules.proofs.Possible.{capped-of, noted-of, fresh-possible}
 use Rattle.rules.specs.Accepted.{Accepted}
 use mathlib.Core.Path.{_≡_, refl, sym, ap, _∙_}
 use mathlib.Core.Bool.{false, true}
@@ -13,14 +13,14 @@ use lib.ListN.{length, getD, set, replicate, length-set, List·getD-eq-default}
 use lib.Seq.{getD-set-same, getD-set-other}
 use Rattle.general.proofs.Lists.{getD-zeros, getD-map-in}
 use Rattle.general.proofs.Tests.{by-eqb, only-none}
-use Rattle.places.specs.Board.{boardLength, monthPlace, storagePlace, marksPlace, takenPlace, duePlace, storageAt}
+use Rattle.places.specs.Board.{boardLength, monthPlace, storagePlace, marksPlace, takenPlace, duePlace, wordPlace, storageAt}
 use Rattle.rules.specs.Basin.{Basin, Reservoir, noReservoir, rows}
 use Rattle.rules.specs.Tally.{freshCarried, freshStart}
 use Rattle.sections.specs.File.{sectionOf}
 use Rattle.records.specs.Records.{reservoirCount, reservoirRecord, reservoirOf, reservoirsOf, bodies, basinOf}
 use Rattle.records.proofs.Decoded.{reservoirs-are, reservoir-is}
 use Rattle.boards.specs.Board.{wordOf, possible}
-use Rattle.boards.proofs.Board.{board-told, board-length}
+use Rattle.boards.proofs.Board.{word-none, board-told, board-length}
 use Rattle.fresh.specs.Fresh.{freshBoard, Started}
 
 -- ---- one reservoir after another
@@ -44,6 +44,12 @@ no-marks : (n : ℕ) → wordOf (replicate n false) ≡ 0
 unfolding wordOf
 no-marks zero = refl
 no-marks (suc n) = omega (arith, no-marks n)
+
+-- for no right is a short month noted
+pub no-word : (n i : ℕ) → wordOf (getD (replicate n (replicate 12 false)) i []) ≡ 0
+no-word zero i = word-none
+no-word (suc n) zero = no-marks 12
+no-word (suc n) (suc i) = no-word n i
 
 abbrev starts : List ℕ → List ℕ
 starts rs = map (λ (v : Reservoir). v .start) (reservoirsOf rs)
@@ -79,6 +85,7 @@ fresh-is f bd made zeros few w = board-told b (freshCarried b) (λ u k. 0) made 
   marks = none marksPlace (λ v l e. omega (arith, l, e, few)) ∙ sym (no-marks (length (b .reservoirs)));
   taken = λ i h. none (takenPlace i) (λ v l e. omega (arith, l, e, few)) ∙ sym (getD-zeros (length (b .rights)) i);
   dues = λ u k h l. none (duePlace u k) (λ v n e. omega (arith, n, e, few)) ∙ sym (only-none (ltb u (rows b)));
+  words = λ i h. none (wordPlace i) (λ v l e. omega (arith, l, e, few)) ∙ sym (no-word (length (b .rights)) i);
 })
   where
     rs : List ℕ
@@ -99,4 +106,4 @@ module _ (b : Basin) (acc : Accepted b) where
 
   pub fresh-can : possible b (freshBoard b) ≡ true
   unfolding freshBoard freshStart
-  fresh-can = board-possible b (freshCarried b) (λ w k. 0) (fresh-possible b acc .month-in-year) (capped-of b (freshStart b) (fresh-possible b acc)) (λ w k h l. omega arith)
+  fresh-can = board-possible b (freshCarried b) (λ w k. 0) (fresh-possible b acc .month-in-year) (capped-of b (freshStart b) (fresh-possible b acc)) (noted-of b (freshStart b) (fresh-possible b acc)) (λ w k h l. omega arith)

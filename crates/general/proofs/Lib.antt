@@ -5,6 +5,7 @@ pub mod Sums
 pub mod Lists
 pub mod Tables
 pub mod Loops
+pub mod Bits
 pub mod Routes
 pub mod Fill
 pub mod Entries

@@ -1,15 +1,17 @@
 -- Laws of tables. Assumes nothing.
 use mathlib.Core.Path.{_≡_, refl, sym, ap, _∙_}
+use mathlib.Core.Logic.{_≢_}
 use mathlib.Core.List.{List, [], _∷_, _++_}
 use Prim.Native.Nat.{ℕ, zero, suc, _+_, _≤_, _<_}
 use native.Mathlib.Numerals.{add-one}
 use native.Mathlib.Decide.{decLt}
 use native.Mathlib.Omega.{arith}
-use lib.ListN.{length, getD, length-append, List·getD-append, List·getD-eq-default}
-use lib.Seq.{getD-at, ext-getD}
+use lib.ListN.{length, getD, set, length-set, length-append, List·getD-append, List·getD-eq-default}
+use lib.Seq.{getD-at, getD-set-same, getD-set-other, ext-getD}
 use Rattle.general.specs.Sums.{sumOver, sum, sumTo}
 use Rattle.general.specs.Tables.{tab}
 use Rattle.general.proofs.Sums.{sum-append}
+use Rattle.general.proofs.Tests.{by-eqb}
 
 module _ {A : Type 0} (f : ℕ → A) where
   pub tab-length : (n : ℕ) → length (tab n f) ≡ n
@@ -39,6 +41,15 @@ module _ {A : Type 0} where
   -- a list is the table of its elements
   pub tab-of : (l : List A) (d : A) (n : ℕ) (f : ℕ → A) → length l ≡ n → ((i : ℕ) → i < n → f i ≡ getD l i d) → tab n f ≡ l
   tab-of l d n f e h = ext-getD d (tab n f) l (tab-length f n ∙ sym e) (λ i k. let j : i < n = rw (tab-length f n) at k in tab-at f n i d j ∙ h i j)
+
+-- after a store at one place
+pub tab-set : {A : Type 0} (n : ℕ) (f g : ℕ → A) (i : ℕ) (x d : A) → i < n → g i ≡ x → ((k : ℕ) → k < n → k ≢ i → g k ≡ f k) → tab n g ≡ set (tab n f) i x
+tab-set n f g i x d h e o =
+    ext-getD d (tab n g) (set (tab n f) i x) (tab-length g n ∙ sym (length-set (tab n f) i x ∙ tab-length f n))
+    (λ k l. let m : k < n = rw (tab-length g n) at l in
+    by-eqb k i (λ _. getD (tab n g) k d ≡ getD (set (tab n f) i x) k d)
+    (λ z. rw z (tab-at g n i d h ∙ e ∙ sym (getD-set-same (tab n f) i x d (rw (tab-length f n) h))))
+    (λ z. tab-at g n k d m ∙ o k m z ∙ sym (getD-set-other (tab n f) i k x d z ∙ tab-at f n k d m)))
 
 pub sum-tab : (n : ℕ) (f : ℕ → ℕ) → sum (tab n f) ≡ sumTo n f
 unfolding tab sumTo sumOver

@@ -2,8 +2,9 @@
 use mathlib.Core.Bool.{Bool, true, false, not, _||_}
 use mathlib.Core.List.{List, [], _∷_}
 use mathlib.Core.Option.{Option, none, some}
-use Prim.Native.Nat.{ℕ, zero, suc, _/_, _%_, _^_}
+use Prim.Native.Nat.{ℕ, zero, suc, _+_, _-_, _/_, _%_, _^_}
 use lib.Dec.{leb, eqb}
+use Rattle.general.specs.Sums.{sumTo, only}
 
 infixl 35 _and_
 -- a conjunction that stays shut, so that a proof can take it apart without naming its sides
@@ -18,6 +19,14 @@ between a x c = leb a x and leb x c
 -- whether bit i of a word is set
 unfoldable pub bit : ℕ → ℕ → Bool
 bit w i = eqb (w / 2 ^ i % 2) 1
+
+-- the word with bit i made 1 or 0
+unfoldable pub withBit : ℕ → ℕ → Bool → ℕ
+withBit w i on = w - only (bit w i) (2 ^ i) + only on (2 ^ i)
+
+-- how many of its first n bits are set
+unfoldable pub bitsSet : ℕ → ℕ → ℕ
+bitsSet n w = sumTo n (λ k. only (bit w k) 1)
 
 -- whether the list holds the number
 unfoldable pub has : ℕ → List ℕ → Bool

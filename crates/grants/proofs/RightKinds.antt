@@ -3,7 +3,7 @@ use mathlib.Core.Bool.{Bool, true, false, _&&_}
 use mathlib.Core.List.{List, [], _∷_}
 use mathlib.Core.Path.{_≡_, refl, sym, ap, _∙_}
 use Prim.Native.Nat.{ℕ, zero, suc, _+_, _-_, _*_, _%_, _^_, _≤_, _<_, min}
-use native.Mathlib.Nat.{one-mul, mod-eq-of-lt}
+use native.Mathlib.Nat.{pow-le-pow-right}
 use native.Mathlib.Omega.{arith}
 use lib.Dec.{ltb, eqb}
 use lib.ListN.{length, getD, set, length-set}
@@ -21,23 +21,10 @@ use Rattle.river.specs.Arrays.{levelsOf, Walked, Raised}
 use Rattle.river.proofs.Levels.{walk-done, change-idle, available-here, available-other, reserved-level, diverted-zero, reserved-zero, released-zero}
 use Rattle.grants.specs.Stages.{isInstream, amountIn, levelsTaken, Taken, markedBoard, poured, drawnIn, boardDrawn, levelsReleased, homeRow, Drawn}
 
--- ---- 2 to the power v
+-- ---- the mark of one of eight reservoirs
 
-pub shifted : (v : ℕ) → v < 8 → (1 * 2 ^ v % 18446744073709551616 ≡ 2 ^ v) × (2 ^ v ≤ 128)
-shifted v h =
-    let p : 2 ^ v ≤ 128 = small v h in
-    (rw one-mul (mod-eq-of-lt (omega arith)), p)
-  where
-    small : (v : ℕ) → v < 8 → 2 ^ v ≤ 128
-    small zero h = omega arith
-    small (suc zero) h = omega arith
-    small (suc (suc zero)) h = omega arith
-    small (suc (suc (suc zero))) h = omega arith
-    small (suc (suc (suc (suc zero)))) h = omega arith
-    small (suc (suc (suc (suc (suc zero))))) h = omega arith
-    small (suc (suc (suc (suc (suc (suc zero)))))) h = omega arith
-    small (suc (suc (suc (suc (suc (suc (suc zero))))))) h = omega arith
-    small (suc (suc (suc (suc (suc (suc (suc (suc v)))))))) h = absurd (omega arith)
+pub mark-small : (v : ℕ) → v < 8 → 2 ^ v ≤ 128
+mark-small v h = pow-le-pow-right {n = 2} (omega arith) {i = v} {j = 7} (omega (arith, h))
 
 -- ---- the demand
 

@@ -1,7 +1,7 @@
 // The stages of a right's turn: its demand, its part from the river, its part from storage.
 ghost use mathlib.Core.Path.{_≡_};
 ghost use mathlib.Core.Bool.{not};
-ghost use Prim.Native.Nat.{_+_, _≤_, _<_, _^_, min};
+ghost use Prim.Native.Nat.{_+_, _≤_, _<_, min};
 ghost use lib.ListN.{length};
 ghost use Rattle.general.specs.Sums.{only};
 ghost use Rattle.places.specs.Board.{boardLength};
@@ -11,6 +11,7 @@ use numbers::bit_of;
 use numbers::bytes::le32;
 use numbers::index;
 use numbers::lesser;
+use numbers::power;
 use numbers::wide_size;
 use numbers::wide16;
 use numbers::wide32;
@@ -128,14 +129,6 @@ pub fn fill(reservoirs: &[u8], board: &mut [u64], kind: Kind, v: usize, i: usize
     if let Kind::Storage = kind {
         pour(reservoirs, board, v, i, d);
     }
-}
-
-// 2 to the power v, the mark of reservoir v.
-fn power(v: u64) -> u64
-    requires { ⌜ v < 8 ⌝ }
-    ensures { λ r. ⌜ (r ≡ 2 ^ v) × (r ≤ 128) ⌝ }
-{
-    1 << v
 }
 
 // What the river did not give a project right it draws from storage, at most all that is stored. Nothing drawn is no work. The release is

@@ -4,8 +4,14 @@ use mathlib.Core.Bool.{true}
 use mathlib.Core.List.{List, [], _∷_, map}
 use mathlib.Core.Option.{Option, none}
 use Prim.Native.Nat.{ℕ}
+use lib.Dec.{ltb}
 use lib.ListN.{length}
-use Rattle.rules.specs.Basin.{Basin}
+use Rattle.general.specs.Sums.{only}
+use Rattle.general.specs.Tables.{tab}
+use Rattle.general.proofs.Tables.{tab-same}
+use Rattle.general.proofs.Tests.{ltb-yes, only-yes}
+use Rattle.rules.specs.Basin.{Basin, rows}
+use Rattle.rules.specs.Month.{month}
 use Rattle.rules.specs.Tally.{Start, Tally, begun, standing}
 use Rattle.rules.specs.Years.{Entry, countsAs, afterEntry, afterEntries}
 use Rattle.rules.specs.Answers.{Answer, orElse, unless}
@@ -17,14 +23,16 @@ use Rattle.rules.proofs.Theorems.{water, checkpoints}
 use Rattle.rules.specs.declared.Verdict.the-variants.{Accepted as AcceptedFile}
 use Rattle.records.specs.Records.{basinOf}
 use Rattle.filecheck.specs.Check.{checkOf}
-use Rattle.boards.specs.Board.{possible}
-use Rattle.places.specs.Board.{boardLength}
+use Rattle.boards.specs.Board.{carriedOf, possible}
+use Rattle.places.specs.Board.{boardLength, dueAt}
 use Rattle.answers.proofs.Answers.{no-refusal}
 use Rattle.month.specs.Month.{runOf}
+use Rattle.stock.specs.Months.{shortMonthsOf}
 use Rattle.fresh.specs.Fresh.{freshRefusal, freshBoard, freshSettled, freshOf}
 use Rattle.fresh.proofs.Start.{fresh-size, fresh-can}
 use Rattle.ledger.specs.Account.{Event, monthEvent, yearEvent, leftBy, entryOf, Meets, Run, boardLeft, startOf, tallyBoard, Follows, AllFollow, Accounted, FreshBoard}
 use Rattle.ledger.proofs.Tally.{start-possible, tally-begins, fresh-starts}
+use Rattle.ledger.proofs.Shorts.{told-short}
 use Rattle.ledger.proofs.Months.{follow-month}
 use Rattle.ledger.proofs.Years.{follow-year}
 
@@ -68,11 +76,20 @@ module _ (f : List ℕ) (ok : checkOf f ≡ AcceptedFile) (acc : Accepted (basin
       let p : Possible b s = start-possible b acc board n can in
       let begins : board ≡ tallyBoard b (begun s) = tally-begins b acc board n can in
       let h : AllFollow f (begun s) es = all-follow (begun s) (begun-possible b s p) es (subst (λ (l : List ℕ). Run f l es) begins r) in
-      record { follows = h; left = left-by f (begun s) board es begins h; water = water b acc s p (map (entryOf f) es) }
+      let left : boardLeft board es ≡ tallyBoard b (afterEntries b (begun s) (map (entryOf f) es)) = left-by f (begun s) board es begins h in
+      record {
+        follows = h;
+        left = left;
+        short-months = λ i o. ap (λ (l : List ℕ). shortMonthsOf f l i) left ∙ told-short f ok acc s p (map (entryOf f) es) i o;
+        water = water b acc s p (map (entryOf f) es);
+      }
 
   pub board-checkpoints : (board runoff : List ℕ) → length board ≡ boardLength → possible (basinOf f) board ≡ true → MonthSound (basinOf f) (runOf (basinOf f) runoff board)
   unfolding runOf startOf
-  board-checkpoints board runoff n can = checkpoints (basinOf f) acc (startOf (basinOf f) board) (start-possible (basinOf f) acc board n can) runoff
+  board-checkpoints board runoff n can =
+      let b : Basin = basinOf f in
+      let arriving : tab (rows b) (λ w. only (ltb w (rows b)) (dueAt board w 1)) ≡ tab (rows b) (λ w. dueAt board w 1) = tab-same (rows b) _ _ (λ w h. only-yes (ltb w (rows b)) (dueAt board w 1) (ltb-yes w (rows b) h)) in
+      subst (λ (l : List ℕ). MonthSound b (month b (carriedOf b board) runoff l)) arriving (checkpoints b acc (startOf b board) (start-possible b acc board n can) runoff)
 
   -- ---- the fresh board
 

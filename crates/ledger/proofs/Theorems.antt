@@ -1,10 +1,14 @@
 -- The theorems of specs/Account.antt, for every file that the check accepts. Assumes nothing.
-use mathlib.Core.Path.{sym, _∙_, subst}
-use mathlib.Core.List.{List}
+use mathlib.Core.Path.{sym, ap, _∙_, subst}
+use mathlib.Core.List.{List, map}
 use Prim.Native.Nat.{ℕ}
-use Rattle.rules.specs.Tally.{Start}
+use Rattle.rules.specs.Basin.{Basin}
+use Rattle.rules.specs.Tally.{Start, freshStart, begun}
+use Rattle.rules.specs.Years.{afterEntries}
+use Rattle.rules.proofs.Theorems.{fresh}
+use Rattle.records.specs.Records.{basinOf}
 use Rattle.filecheck.proofs.Accepted.{accepted-facts}
-use Rattle.ledger.specs.Account.{TellsAll, Accounted, Claim, FreshBoard, FreshStarts, FromFresh, Checkpoints, OneReport, OneYear, OneRun}
+use Rattle.ledger.specs.Account.{TellsAll, entryOf, Accounted, Claim, FreshBoard, FreshStarts, FromFresh, ShortFromFresh, Checkpoints, OneReport, OneYear, OneRun}
 use Rattle.ledger.proofs.Telling.{all-told}
 use Rattle.ledger.proofs.Account.{accounted, fresh-facts, board-checkpoints}
 use Rattle.ledger.proofs.Runs.{only-run}
@@ -24,6 +28,12 @@ from-fresh f board e n es r =
     let h : FreshBoard f board = fresh-starts f board e n in
     let left : List ℕ = (freshOf f board) .board in
     subst (λ (s : Start). Accounted f left s es) (h .starts) (claim f left e (h .size) (h .is-possible) es r)
+
+pub short-from-fresh : ShortFromFresh
+short-from-fresh f board e n es r i h =
+    let b : Basin = basinOf f in
+    from-fresh f board e n es r .short-months i h
+    ∙ ap (λ (m : ℕ). record { number = 0; place = 0; months = m }) (fresh b (accepted-facts f e) .none-short ((afterEntries b (begun (freshStart b)) (map (entryOf f) es)) .months) i)
 
 pub checkpoints : Checkpoints
 checkpoints f board runoff e n can = board-checkpoints f e (accepted-facts f e) board runoff n can

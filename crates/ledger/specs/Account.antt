@@ -1,12 +1,14 @@
 -- A run of calls is accounted for: one claim about any list of month calls and year runs on one file, from any board that is possible for it. What the calls
--- answer and leave is what the tally says (01, "The tally of a list of months"; 02, Nos. 4 and 5). It cites only definitions; proofs/Theorems.antt proves it.
+-- answer and leave is what the tally says (01, "The tally of a list of months"; 02, Nos. 4 to 6). It cites only definitions; proofs/Theorems.antt proves it.
 use mathlib.Core.Path.{_≡_}
 use mathlib.Core.Bool.{true}
 use mathlib.Core.List.{List, [], _∷_, map}
 use mathlib.Core.Option.{Option, none, some}
 use Prim.Native.Nat.{ℕ, _≤_, _<_}
+use lib.Dec.{ltb}
 use lib.ListN.{length, getD, take, drop}
 use lib.IntN.{pos}
+use Rattle.general.specs.Sums.{only}
 use Rattle.rules.specs.Basin.{Basin, rows}
 use Rattle.rules.specs.River.{flowAt, availableAt}
 use Rattle.rules.specs.Month.{MonthRun, reasonNumber, grantAt, deepOf}
@@ -14,6 +16,7 @@ use Rattle.rules.specs.Tally.{Call, reportLength, refusal, Start, freshStart, T
 use Rattle.rules.specs.Years.{YearRun, callsIn, runRefusal, Entry, monthly, yearly, afterEntry, afterEntries, entryAnswer}
 use Rattle.rules.specs.Answers.{Answer}
 use Rattle.rules.specs.Water.{MonthSound, WaterKept}
+use Rattle.rules.specs.Shortness.{sinceOctober, shortIn, shortNow}
 use Rattle.rules.specs.declared.Verdict.the-variants.{Accepted}
 use Rattle.records.specs.Records.{basinOf}
 use Rattle.filecheck.specs.Check.{checkOf}
@@ -22,6 +25,7 @@ use Rattle.boards.specs.Board.{carriedOf, boardOf, possible}
 use Rattle.boards.specs.Report.{reportOf}
 use Rattle.places.specs.Report.{fromRiverPlace, fromStoragePlace, reasonPlace, stationPlace, flowPlace, availablePlace, evaporationPlace, deepPlace}
 use Rattle.fresh.specs.Fresh.{freshOf}
+use Rattle.stock.specs.Months.{shortMonthsOf}
 use Rattle.month.specs.Month.{callWith, runOf, Outcome, MonthMeets}
 use Rattle.book.specs.Book.{lookupRefusal}
 use Rattle.years.specs.Years.{yearSheets, YearMeets}
@@ -123,11 +127,11 @@ ReportOk f t (yearEvent e) = RunReports (runRefusal (basinOf f) t (runIn f e)) (
 
 -- ---- boards and the tally
 
--- what a board starts a list of calls from: m, storages, marks, taken, and its dues
+-- what a board starts a list of calls from: m, storages, marks, taken, the months in which each right was short, and what is due at each row
 unfoldable pub startOf : Basin → List ℕ → Start
-startOf b l = record { carried = carriedOf b l; due = dueAt l }
+startOf b l = record { carried = carriedOf b l; due = λ w k. only (ltb w (rows b)) (dueAt l w k) }
 
--- the board that the tally keeps: m, storages, marks, taken, and pending at each row and k
+-- the board that the tally keeps: m, storages, marks, taken, short words, and pending at each row and k
 unfoldable pub tallyBoard : Basin → Tally → List ℕ
 tallyBoard b t = boardOf b (t .carried) (pending b (t .start) (t .months))
 
@@ -150,6 +154,9 @@ pub record Accounted (f board : List ℕ) (s : Start) (es : List Event) : Type 0
   pub follows : AllFollow f (begun s) es
   -- and so is the board after the whole run, be it empty
   pub left : boardLeft board es ≡ tallyBoard (basinOf f) (afterEntries (basinOf f) (begun s) (map (entryOf f) es))
+  -- what is answered on it as a right's short months are the months of the present water year in which the tally's grants for it were short
+  pub short-months : (i : ℕ) → i < length ((basinOf f) .rights)
+      → shortMonthsOf f (boardLeft board es) i ≡ record { number = 0; place = 0; months = shortNow s ((afterEntries (basinOf f) (begun s) (map (entryOf f) es)) .months) i }
   -- By then no water is lost and none has appeared since the start; each reservoir holds what its grants and its evaporation leave; at no checkpoint was a
   -- flow negative or below the available flow.
   pub water : WaterKept (basinOf f) (afterEntries (basinOf f) (begun s) (map (entryOf f) es))
@@ -171,6 +178,12 @@ FreshStarts = (f board : List ℕ) → checkOf f ≡ Accepted → length board �
 -- so that a run from the fresh board is accounted for by the fresh tally
 abbrev pub FromFresh : Type 0
 FromFresh = (f board : List ℕ) → checkOf f ≡ Accepted → length board ≡ boardLength → (es : List Event) → Run f ((freshOf f board) .board) es → Accounted f ((freshOf f board) .board) (freshStart (basinOf f)) es
+
+-- where the short months are just those of its grants since October
+abbrev pub ShortFromFresh : Type 0
+ShortFromFresh = (f board : List ℕ) → checkOf f ≡ Accepted → length board ≡ boardLength → (es : List Event) → Run f ((freshOf f board) .board) es → (i : ℕ) → i < length ((basinOf f) .rights)
+    → shortMonthsOf f (boardLeft ((freshOf f board) .board) es) i
+    ≡ record { number = 0; place = 0; months = shortIn i (sinceOctober ((afterEntries (basinOf f) (begun (freshStart (basinOf f))) (map (entryOf f) es)) .months)) }
 
 -- ---- the checkpoints of a month from any possible board, with any runoff: before the first right and three times in each right's turn
 

@@ -4,6 +4,7 @@ ghost use Rattle.rules.specs.Answers.{numberOf, told};
 ghost use Rattle.filecheck.specs.Check.{checkOf};
 ghost use Rattle.answers.specs.Answers.{answerOf, settled};
 ghost use Rattle.fresh.specs.Fresh.{freshOf, freshTold};
+ghost use Rattle.stock.specs.Months.{shortMonthsOf, monthsTold};
 ghost use Rattle.stock.specs.Stock.{stockOf, stockTold};
 ghost use Rattle.month.specs.Month.{MonthMeets, outcomeOf};
 ghost use Rattle.book.specs.Book.{lookupRefusal};
@@ -15,6 +16,8 @@ use filecheck::check::check;
 use fresh::fresh;
 use month::month;
 use stock::Sums;
+use stock::months::Months;
+use stock::months::short_months;
 use stock::stock;
 use years::run::run_year;
 
@@ -58,6 +61,14 @@ pub extern "C" fn river_stock(file: &[u8], board: &[u64]) -> Sums
     ensures { λ r. ⌜ stockTold r ≡ stockOf (now (file .entry)) (now (board .entry)) ⌝ }
 {
     stock(file, board)
+}
+
+// The right is given by its place in the list.
+#[no_mangle]
+pub extern "C" fn river_short_months(file: &[u8], board: &[u64], right: usize) -> Months
+    ensures { λ r. ⌜ monthsTold r ≡ shortMonthsOf (now (file .entry)) (now (board .entry)) right ⌝ }
+{
+    short_months(file, board, right)
 }
 
 // Whether a book lists a year, for this basin.

@@ -1,7 +1,7 @@
 -- The board that a month leaves is possible again. Assumes nothing.
 use mathlib.Core.Bool.{Bool, true}
-use mathlib.Core.List.{List}
-use mathlib.Core.Path.{_≡_, ap}
+use mathlib.Core.List.{List, []}
+use mathlib.Core.Path.{_≡_, ap, _∙_}
 use Prim.Native.Nat.{ℕ, suc, _+_, _≤_, _<_}
 use native.Mathlib.Decide.{decLt}
 use native.Mathlib.Omega.{arith}
@@ -16,6 +16,7 @@ use Rattle.rules.specs.Accepted.{Accepted}
 use Rattle.rules.specs.Theorems.{mostDue}
 use Rattle.general.specs.Tests.{bit}
 use Rattle.rules.proofs.Bounds.{CarriedCapped, month-capped, month-in-year, month-returns-le}
+use Rattle.rules.proofs.Noting.{Noted, month-noted}
 use Rattle.places.specs.Board.{storageAt, marksAt, takenAt, dueAt}
 use Rattle.boards.specs.Board.{carriedOf, possible}
 use Rattle.month.specs.Month.{runOf, dueAfter, boardAfter}
@@ -41,6 +42,13 @@ module _ (b : Basin) (acc : Accepted b) (bd : List ℕ) (can : possible b bd ≡
       taken i (yes h) = omega (arith, tab-at (takenAt bd) (length (b .rights)) i 0 h, taken-most b bd can i (omega (arith, h, acc .few-rights)))
       taken i (no h) = omega (arith, tab-past (takenAt bd) (length (b .rights)) i 0 (omega (arith, h)))
 
+  carried-noted : Noted b ((carriedOf b bd) .shorts)
+  unfolding carriedOf
+  carried-noted = record {
+    count = tab-length _ (length (b .rights));
+    months = λ i h. ap length (tab-at _ (length (b .rights)) i [] h) ∙ tab-length _ 12;
+  }
+
   moved-most : (w k : ℕ) → w < rows b → k < 11 → only (ltb (suc k) 11) (dueAt bd w (suc (suc k))) + 256_000_000_000 ≤ mostDue (suc k)
   moved-most w k h o = pick (decLt k 10)
     where
@@ -62,4 +70,4 @@ module _ (b : Basin) (acc : Accepted b) (bd : List ℕ) (can : possible b bd ≡
   unfolding boardAfter runOf carriedOf
   after-possible runoff =
       let arriving : List ℕ = tab (rows b) (λ w. dueAt bd w 1) in
-      board-possible b _ (dueAfter b (runOf b runoff bd) bd) (month-in-year b (carriedOf b bd) runoff arriving (month-most b bd can)) (month-capped b (carriedOf b bd) runoff arriving carried-capped) (dues-most runoff)
+      board-possible b _ (dueAfter b (runOf b runoff bd) bd) (month-in-year b (carriedOf b bd) runoff arriving (month-most b bd can)) (month-capped b (carriedOf b bd) runoff arriving carried-capped) (month-noted b (carriedOf b bd) runoff arriving carried-noted) (dues-most runoff)

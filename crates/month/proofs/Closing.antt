@@ -1,75 +1,36 @@
 -- The board that a month leaves, place by place. Assumes nothing.
 use mathlib.Core.Bool.{Bool, true, false, cond}
-use mathlib.Core.List.{List, [], _∷_}
+use mathlib.Core.List.{List}
 use mathlib.Core.Path.{_≡_, refl, sym, ap, _∙_}
-use Prim.Native.Nat.{ℕ, zero, suc, _+_, _-_, _/_, _%_, _^_, _≤_, _<_}
-use native.Mathlib.Nat.{pow-suc}
+use Prim.Native.Nat.{ℕ, suc, _+_, _-_, _^_, _≤_, _<_}
 use native.Mathlib.Decide.{decLt}
 use native.Mathlib.Omega.{arith}
 use lib.Dec.{ltb, eqb}
 use lib.ListN.{length, getD, set, length-set}
 use lib.Seq.{getD-set-same, getD-set-other}
-use Rattle.general.specs.Sums.{only, sumOver}
-use Rattle.general.specs.Tables.{tab, All}
-use Rattle.general.proofs.Entries.{tab-none}
-use Rattle.general.proofs.Tables.{tab-at, tab-past, tab-same, tab-cons}
-use Rattle.general.proofs.Tests.{by-eqb, eqb-other, ltb-yes, ltb-no}
-use Rattle.rules.specs.Basin.{Basin, Right, rows, reservoirAt, patternOf}
-use Rattle.rules.specs.Accepted.{GoodRight}
-use Rattle.rules.specs.Returns.{Part, partsOf, lagged, returnedAt}
-use Rattle.rules.specs.Turn.{State, granted, turn}
-use Rattle.general.specs.Tests.{bit}
-use Rattle.rules.specs.Month.{MonthRun, opening, turns, afterTurns, returnedBy, returnsAt, evaporation, evaporations, evaporated, nextMonth, month}
-use Rattle.rules.proofs.Splits.{PartsIn, parts-in}
+use Rattle.general.specs.Sums.{only}
+use Rattle.general.specs.Tables.{tab}
+use Rattle.general.proofs.Tables.{tab-at, tab-past}
+use Rattle.general.proofs.Tests.{eqb-other, ltb-yes, ltb-no}
+use Rattle.rules.specs.Basin.{Basin, rows, reservoirAt}
+use Rattle.rules.specs.Turn.{State}
+use Rattle.rules.specs.Month.{MonthRun, opening, returnsAt, evaporation, evaporations, evaporated, nextMonth, month}
 use Rattle.records.specs.Records.{reservoirCount}
 use Rattle.turns.specs.declared.lines.Totals.{Totals}
 use Rattle.turns.specs.Lines.{turnsFrom, Served}
 use Rattle.closing.specs.Losses.{lossIn, Lost}
-use Rattle.places.specs.Board.{monthPlace, storagePlace, marksPlace, takenPlace, duePlace, boardLength, monthAt, storageAt, marksAt, takenAt, dueAt}
+use Rattle.closing.specs.Noting.{WordsNoted}
+use Rattle.places.specs.Board.{monthPlace, storagePlace, marksPlace, takenPlace, duePlace, wordsFrom, wordPlace, boardLength, monthAt, storageAt, marksAt, takenAt, dueAt}
 use Rattle.turns.specs.State.{marksOf, takenOf, stateOf, Setting}
 use Rattle.turns.proofs.Facts.{reservoirs-count, reservoir-is}
-use Rattle.turns.proofs.Places.{storage-at, taken-at, bit-suc, bit-zero}
+use Rattle.turns.proofs.Places.{storage-at, taken-at}
 use Rattle.boards.specs.Board.{carriedOf, wordOf, possible}
 use Rattle.month.specs.Month.{runOf, dueAfter, boardAfter}
 use Rattle.boards.proofs.Bounds.{marks-most, no-storage, no-taken, no-due}
-use Rattle.boards.proofs.Board.{board-told}
-use Rattle.month.proofs.Opened.{opened, opened-length, opened-storage, opened-word, opened-taken, opened-due}
-
--- ---- a word below 2 to the power n is that of its first n bits
-
-low-bit : (x : ℕ) → only (bit x 0) 1 ≡ x % 2
-low-bit x = ap (λ (t : Bool). only t 1) (bit-zero x) ∙ by-eqb (x % 2) 1 (λ t. only t 1 ≡ x % 2) (λ e. sym e) (λ e. let o : x % 2 ≡ 0 = rest e in sym o)
-  where
-    rest : (x % 2 ≡ 1 → ⊥) → x % 2 ≡ 0
-    rest n = pick (decLt (x % 2) 1)
-      where
-        pick : Dec (x % 2 < 1) → x % 2 ≡ 0
-        pick (yes h) = omega (arith, h)
-        pick (no h) = absurd (n (omega (arith, h)))
-
-pub word-bits : (n x : ℕ) → x < 2 ^ n → wordOf (tab n (bit x)) ≡ x
-unfolding wordOf
-word-bits zero x h = ap wordOf (tab-none (bit x)) ∙ omega (arith, h)
-word-bits (suc n) x h =
-    let ih : wordOf (tab n (bit (x / 2))) ≡ x / 2 = word-bits n (x / 2) (omega (arith, h, pow-suc 2 n)) in
-    let same : tab n (λ k. bit x (suc k)) ≡ tab n (bit (x / 2)) = tab-same n _ _ (λ k _. bit-suc x k) in
-    ap wordOf (tab-cons n (bit x)) ∙ omega (arith, low-bit x, ap wordOf same, ih)
-
--- ---- nothing returns at a row that the basin does not have
-
-returned-beyond : (b : Basin) (pattern : List ℕ) (w s : ℕ) (qs : List Part) → PartsIn b qs → rows b ≤ w → returnedAt pattern w s qs ≡ 0
-unfolding returnedAt sumOver
-returned-beyond b pattern w s [] h l = refl
-returned-beyond b pattern w s (q ∷ qs) h l = omega (arith, ap (λ (t : Bool). only t (lagged pattern s q)) (eqb-other (q .row) w (λ e. omega (arith, e, l, h .0))), returned-beyond b pattern w s qs (h .1) l)
-
-returns-beyond : (b : Basin) (m i : ℕ) (rs : List Right) (s : State) (w k : ℕ) → All (GoodRight b) rs → rows b ≤ w → returnsAt b (turns b m i rs s) w k ≡ 0
-unfolding returnsAt sumOver turns returnedBy turn
-returns-beyond b m i [] s w k h l = refl
-returns-beyond b m i (r ∷ rs) s w k h l = omega (
-  arith,
-  returned-beyond b (patternOf b r) w k (partsOf (r .kind) r (granted ((turn b m i r s) .grant))) (parts-in b r (r .kind) (granted ((turn b m i r s) .grant)) (h .0 .returns-ok)) l,
-  returns-beyond b m (suc i) rs ((turn b m i r s) .after-returns) w k (h .1) l,
-)
+use Rattle.boards.proofs.Board.{word-bits, board-told}
+use Rattle.month.proofs.Opened.{opened, opened-length, opened-storage, opened-marks, opened-taken, opened-due}
+use Rattle.month.proofs.Turned.{returns-beyond, turns-are, closed-is}
+use Rattle.month.proofs.Words.{word-told}
 
 -- ---- the month that was run
 
@@ -82,13 +43,11 @@ module _ (b : Basin) (st t rs : List ℕ) (pa : List (List ℕ)) (ri : List ℕ)
   abbrev s₂ : State
   s₂ = stateOf b f₂ a₂ sh₂ bd₂
 
-  pub turns-are : turnsFrom b m (stateOf b f a sh (opened bd)) ≡ h .turns
-  unfolding runOf month carriedOf
-  turns-are = ap (turnsFrom b m) start ∙ ap (λ (x : ℕ). turnsFrom b x (opening b (carriedOf b bd) runoff (tab (rows b) (λ u. dueAt bd u 1)))) em
+  turns-same : turnsFrom b m (stateOf b f a sh (opened bd)) ≡ h .turns
+  turns-same = turns-are b st t rs pa ri w runoff bd can f a sh start m em rp f₂ a₂ sh₂ bd₂ rp₁ c q
 
-  pub closed-is : s₂ ≡ h .closed
-  unfolding runOf month carriedOf
-  closed-is = q .state ∙ (λ z. afterTurns (turns-are z) (start z))
+  closed-same : s₂ ≡ h .closed
+  closed-same = closed-is b st t rs pa ri w runoff bd can f a sh start m em rp f₂ a₂ sh₂ bd₂ rp₁ c q
 
   few : length (b .reservoirs) ≤ 8
   few = w .accepted .few-reservoirs
@@ -100,7 +59,7 @@ module _ (b : Basin) (st t rs : List ℕ) (pa : List (List ℕ)) (ri : List ℕ)
 
   stored-is : (v : ℕ) → v < length (b .reservoirs) → getD ((h .closed) .storages) v 0 ≡ storageAt bd₂ v
   unfolding stateOf
-  stored-is v o = ap (λ (s : State). getD (s .storages) v 0) (sym closed-is) ∙ storage-at (length (b .reservoirs)) bd₂ v o
+  stored-is v o = ap (λ (s : State). getD (s .storages) v 0) (sym closed-same) ∙ storage-at (length (b .reservoirs)) bd₂ v o
 
   losses-are : h .evaporation ≡ evaporations b (monthAt bd) ((h .closed) .storages)
   unfolding runOf month carriedOf
@@ -130,24 +89,24 @@ module _ (b : Basin) (st t rs : List ℕ) (pa : List (List ℕ)) (ri : List ℕ)
 
   -- ---- marks and water taken
 
-  word-in : marksAt bd₂ < 2 ^ length (b .reservoirs)
-  word-in = q .kept .marks (omega (arith, opened-word bd, go (eqb (monthAt bd) 0)))
+  marks-in : marksAt bd₂ < 2 ^ length (b .reservoirs)
+  marks-in = q .kept .marks (omega (arith, opened-marks bd, go (eqb (monthAt bd) 0)))
     where
       go : (o : Bool) → cond o 0 (marksAt bd) < 2 ^ length (b .reservoirs)
       go true = omega (arith, marks-most b bd can)
       go false = marks-most b bd can
 
-  word-is : marksAt bd₂ ≡ wordOf ((h .carried) .marks)
+  marks-are : marksAt bd₂ ≡ wordOf ((h .carried) .marks)
   unfolding runOf month carriedOf stateOf marksOf
-  word-is = sym (word-bits (length (b .reservoirs)) (marksAt bd₂) word-in) ∙ ap (λ (s : State). wordOf (s .marks)) closed-is
+  marks-are = sym (word-bits (length (b .reservoirs)) (marksAt bd₂) marks-in) ∙ ap (λ (s : State). wordOf (s .marks)) closed-same
 
   taken-is : (i : ℕ) → i < length (b .rights) → getD ((h .carried) .taken) i 0 ≡ takenAt bd₂ i
   unfolding runOf month carriedOf stateOf
-  taken-is i o = ap (λ (s : State). getD (s .taken) i 0) (sym closed-is) ∙ taken-at (length (b .rights)) bd₂ i o
+  taken-is i o = ap (λ (s : State). getD (s .taken) i 0) (sym closed-same) ∙ taken-at (length (b .rights)) bd₂ i o
 
   taken-past : (i : ℕ) → length (b .rights) ≤ i → getD ((h .carried) .taken) i 0 ≡ 0
   unfolding runOf month carriedOf stateOf takenOf
-  taken-past i o = ap (λ (s : State). getD (s .taken) i 0) (sym closed-is) ∙ tab-past (λ k. takenAt bd₂ k) (length (b .rights)) i 0 o
+  taken-past i o = ap (λ (s : State). getD (s .taken) i 0) (sym closed-same) ∙ tab-past (λ k. takenAt bd₂ k) (length (b .rights)) i 0 o
 
   -- ---- dues
 
@@ -160,7 +119,7 @@ module _ (b : Basin) (st t rs : List ℕ) (pa : List (List ℕ)) (ri : List ℕ)
 
   due-is : (u k : ℕ) → u < 64 → k < 11 → dueAt bd₂ u (suc k) ≡ dueAfter b h bd u (suc k)
   unfolding dueAfter
-  due-is u k o l = q .dues u k l ∙ (λ z. moved u k o l z + returnsAt b (turns-are z) u (suc k))
+  due-is u k o l = q .dues u k l ∙ (λ z. moved u k o l z + returnsAt b (turns-same z) u (suc k))
 
   due-past : (u k : ℕ) → u < 64 → k < 11 → rows b ≤ u → dueAt bd₂ u (suc k) ≡ 0
   due-past u k o l past = omega (
@@ -184,24 +143,28 @@ module _ (b : Basin) (st t rs : List ℕ) (pa : List (List ℕ)) (ri : List ℕ)
 
   -- ---- the board
 
-  module _ (rp₂ : List ℕ) (at : ℕ) (bd₃ rp₃ : List ℕ) (l : Lost rs m (reservoirCount rs) bd₂ rp₂ at bd₃ rp₃) (bd₄ : List ℕ) (e₄ : bd₄ ≡ set bd₃ monthPlace (nextMonth m)) where
+  -- who was short is noted, the reservoirs lose their evaporation, the month goes on
+  module _ (noted : List ℕ) (e : WordsNoted m (length (b .rights)) rp₁ bd₂ noted) (rp₂ : List ℕ) (at : ℕ) (bd₃ rp₃ : List ℕ) (l : Lost rs m (reservoirCount rs) noted rp₂ at bd₃ rp₃) (bd₄ : List ℕ) (e₄ : bd₄ ≡ set bd₃ monthPlace (nextMonth m)) where
     size₃ : length bd₃ ≡ boardLength
-    size₃ = l .size ∙ q .size ∙ opened-length bd
+    size₃ = l .size ∙ e .size ∙ q .size ∙ opened-length bd
 
     off : (p : ℕ) → monthPlace < p → getD bd₄ p 0 ≡ getD bd₃ p 0
     off p o = ap (λ (x : List ℕ). getD x p 0) e₄ ∙ getD-set-other bd₃ monthPlace p (nextMonth m) 0 (λ e. omega (arith, e, o))
 
-    far : (p : ℕ) → marksPlace ≤ p → getD bd₄ p 0 ≡ getD bd₂ p 0
-    far p o = off p (omega (arith, o)) ∙ l .kept p (omega (arith, o, few, count))
+    last : (p : ℕ) → marksPlace ≤ p → getD bd₄ p 0 ≡ getD noted p 0
+    last p o = off p (omega (arith, o)) ∙ l .kept p (omega (arith, o, few, count))
+
+    far : (p : ℕ) → marksPlace ≤ p → p < wordsFrom → getD bd₄ p 0 ≡ getD bd₂ p 0
+    far p o k = last p o ∙ e .front p k
 
     storage-told : (v : ℕ) → v < 8 → storageAt bd₄ v ≡ getD ((h .carried) .storages) v 0
     storage-told v o = pick (decLt v (length (b .reservoirs)))
       where
         pick : Dec (v < length (b .reservoirs)) → storageAt bd₄ v ≡ getD ((h .carried) .storages) v 0
-        pick (yes y) = off (storagePlace v) (omega arith) ∙ l .storages v (omega (arith, y, count)) ∙ sym (left-is v y)
+        pick (yes y) = off (storagePlace v) (omega arith) ∙ l .storages v (omega (arith, y, count)) ∙ ap (λ (x : ℕ). x - lossIn rs m v x) (e .front (storagePlace v) (omega arith)) ∙ sym (left-is v y)
         pick (no y) =
             let z : length (b .reservoirs) ≤ v = omega (arith, y) in
-            off (storagePlace v) (omega arith) ∙ l .kept (storagePlace v) (omega (arith, z, count)) ∙ q .kept .no-reservoir v z o ∙ opened-storage bd v o ∙ no-storage b bd can v o z ∙ sym (left-past v z)
+            off (storagePlace v) (omega arith) ∙ l .kept (storagePlace v) (omega (arith, z, count)) ∙ e .front (storagePlace v) (omega arith) ∙ q .kept .no-reservoir v z o ∙ opened-storage bd v o ∙ no-storage b bd can v o z ∙ sym (left-past v z)
 
     taken-told : (i : ℕ) → i < 256 → takenAt bd₄ i ≡ getD ((h .carried) .taken) i 0
     taken-told i o = pick (decLt i (length (b .rights)))
@@ -211,11 +174,11 @@ module _ (b : Basin) (st t rs : List ℕ) (pa : List (List ℕ)) (ri : List ℕ)
         none false = omega arith
 
         pick : Dec (i < length (b .rights)) → takenAt bd₄ i ≡ getD ((h .carried) .taken) i 0
-        pick (yes y) = far (takenPlace i) (omega arith) ∙ sym (taken-is i y)
+        pick (yes y) = far (takenPlace i) (omega arith) (omega arith) ∙ sym (taken-is i y)
         pick (no y) =
             let z : length (b .rights) ≤ i = omega (arith, y) in
             let e : takenAt (opened bd) i ≡ 0 = omega (arith, opened-taken bd i o, none (eqb (monthAt bd) 0), no-taken b bd can i o z) in
-            far (takenPlace i) (omega arith) ∙ q .kept .no-right i z o ∙ e ∙ sym (taken-past i z)
+            far (takenPlace i) (omega arith) (omega arith) ∙ q .kept .no-right i z o ∙ e ∙ sym (taken-past i z)
 
     month-told : monthAt bd₄ ≡ (h .carried) .m
     unfolding runOf month carriedOf
@@ -227,7 +190,8 @@ module _ (b : Basin) (st t rs : List ℕ) (pa : List (List ℕ)) (ri : List ℕ)
       size = ap length e₄ ∙ length-set bd₃ monthPlace (nextMonth m) ∙ size₃;
       month = month-told;
       storages = storage-told;
-      marks = far marksPlace (omega arith) ∙ word-is;
+      marks = far marksPlace (omega arith) (omega arith) ∙ marks-are;
       taken = taken-told;
-      dues = λ u k o n. far (duePlace u k) (omega arith) ∙ due-told u k o n;
+      dues = λ u k o n. far (duePlace u k) (omega arith) (omega arith) ∙ due-told u k o n;
+      words = λ i o. last (wordPlace i) (omega arith) ∙ word-told b st t rs pa ri w runoff bd can f a sh start m em rp f₂ a₂ sh₂ bd₂ rp₁ c q noted e i o;
     })

@@ -1,5 +1,7 @@
 pub mod Settling
 pub mod Opened
+pub mod Turned
+pub mod Words
 pub mod Closing
 pub mod Reporting
 pub mod After

@@ -16,10 +16,10 @@ use Rattle.rules.specs.Accepted.{Accepted}
 use Rattle.river.specs.Arrays.{levelsOf}
 use Rattle.opening.specs.Opening.{openedParts, openedBoard}
 use Rattle.turns.specs.State.{storagesOf, marksOf, takenOf, shortOf, stateOf}
-use Rattle.places.specs.Board.{boardLength, monthAt, storageAt, marksAt, takenAt, dueAt}
-use Rattle.places.proofs.BoardPlaces.{by-length, month-by, storage-by, marks-by, taken-by, due-by}
+use Rattle.places.specs.Board.{boardLength, monthAt, storageAt, marksAt, takenAt, dueAt, wordAt}
+use Rattle.places.proofs.BoardPlaces.{by-length, month-by, storage-by, marks-by, taken-by, due-by, word-by}
 use Rattle.boards.specs.Board.{carriedOf}
-use Rattle.boards.proofs.Board.{bit-none}
+use Rattle.general.proofs.Bits.{bit-none}
 
 module _ (bd : List ℕ) where
   abbrev october : Bool
@@ -42,9 +42,9 @@ module _ (bd : List ℕ) where
   unfolding openedBoard openedParts
   opened-storage v h = storage-by (openedParts bd october) v h
 
-  pub opened-word : marksAt opened ≡ cond october 0 (marksAt bd)
+  pub opened-marks : marksAt opened ≡ cond october 0 (marksAt bd)
   unfolding openedBoard openedParts
-  opened-word = marks-by (openedParts bd october)
+  opened-marks = marks-by (openedParts bd october)
 
   pub opened-taken : (i : ℕ) → i < 256 → takenAt opened i ≡ cond october 0 (takenAt bd i)
   unfolding openedBoard openedParts
@@ -53,6 +53,10 @@ module _ (bd : List ℕ) where
   pub opened-due : (w k : ℕ) → w < 64 → k < 11 → dueAt opened w (suc k) ≡ cond (eqb (suc k) 11) 0 (dueAt bd w (suc (suc k)))
   unfolding openedBoard openedParts
   opened-due w k h l = due-by (openedParts bd october) w k h l
+
+  pub opened-short : (i : ℕ) → i < 256 → wordAt opened i ≡ cond october 0 (wordAt bd i)
+  unfolding openedBoard openedParts
+  opened-short i h = word-by (openedParts bd october) i h
 
   -- ---- the state
 
@@ -63,7 +67,7 @@ module _ (bd : List ℕ) where
 
     marks-opened : marksOf (length (b .reservoirs)) opened ≡ cond october (replicate (length (b .reservoirs)) false) (tab (length (b .reservoirs)) (bit (marksAt bd)))
     unfolding marksOf
-    marks-opened = ap (λ (x : ℕ). tab (length (b .reservoirs)) (bit x)) opened-word ∙ go october
+    marks-opened = ap (λ (x : ℕ). tab (length (b .reservoirs)) (bit x)) opened-marks ∙ go october
       where
         none : tab (length (b .reservoirs)) (bit 0) ≡ replicate (length (b .reservoirs)) false
         none = tab-of (replicate (length (b .reservoirs)) false) false (length (b .reservoirs)) (bit 0) (length-replicate _ false) (λ i h. bit-none i ∙ sym (getD-falses (length (b .reservoirs)) i))

@@ -19,10 +19,10 @@ use Rattle.records.specs.Records.{reservoirCount}
 use Rattle.river.specs.Arrays.{rowLevel, levelsOf}
 use Rattle.turns.specs.declared.lines.Totals.{Totals}
 use Rattle.turns.specs.Lines.{LinesTo, turnsFrom, Served}
-use Rattle.closing.specs.Losses.{Lost}
+use Rattle.closing.specs.Losses.{lossIn, Lost}
 use Rattle.turns.specs.State.{stateOf, Setting}
 use Rattle.turns.proofs.Facts.{reservoirs-count}
-use Rattle.places.specs.Board.{monthAt, dueAt}
+use Rattle.places.specs.Board.{monthAt, storageAt, dueAt}
 use Rattle.boards.specs.Board.{carriedOf, possible}
 use Rattle.boards.specs.Report.{reportOf}
 use Rattle.boards.proofs.Report.{report-by-parts}
@@ -30,7 +30,8 @@ use Rattle.places.specs.Report.{fromRiverPlace, fromStoragePlace, reasonPlace, 
 use Rattle.month.specs.Month.{runOf}
 use Rattle.closing.specs.Closing.{RowsTold}
 use Rattle.month.proofs.Opened.{opened}
-use Rattle.month.proofs.Closing.{turns-are, closed-is, loss-is}
+use Rattle.month.proofs.Turned.{turns-are, closed-is}
+use Rattle.month.proofs.Closing.{loss-is}
 
 -- ---- the report of the month that was run
 
@@ -57,7 +58,7 @@ module _ (b : Basin) (st t rs : List ℕ) (pa : List (List ℕ)) (ri : List ℕ)
   shorts-left = q .shorts ∙ ap shortCount turns-same
 
   -- rp₂ once the rows are told, rp₃ once the losses are, rp₄ once what went deep is: each behind what was told before it
-  module _ (room : reportLength b ≤ length rp) (rp₂ : List ℕ) (r : RowsTold n (rows b) f₂ a₂ rp₁ rp₂) (bd₃ rp₃ : List ℕ) (l : Lost rs m (reservoirCount rs) bd₂ rp₂ (rowsEnd n (rows b)) bd₃ rp₃)
+  module _ (room : reportLength b ≤ length rp) (rp₂ : List ℕ) (r : RowsTold n (rows b) f₂ a₂ rp₁ rp₂) (noted : List ℕ) (same : (v : ℕ) → v < 8 → storageAt noted v ≡ storageAt bd₂ v) (bd₃ rp₃ : List ℕ) (l : Lost rs m (reservoirCount rs) noted rp₂ (rowsEnd n (rows b)) bd₃ rp₃)
       (rp₄ : List ℕ) (e : rp₄ ≡ set rp₃ (deepPlace n (rows b) (reservoirCount rs)) (c .deep)) where
     abbrev last : ℕ
     last = deepPlace n (rows b) (reservoirCount rs)
@@ -81,7 +82,7 @@ module _ (b : Basin) (st t rs : List ℕ) (pa : List (List ℕ)) (ri : List ℕ)
     loss-told : (v : ℕ) → v < length (b .reservoirs) → getD rp₄ (evaporationPlace n (rows b) v) 0 ≡ getD (h .evaporation) v 0
     loss-told v o =
         let there : v < reservoirCount rs = omega (arith, o, reservoirs-count w) in
-        aside (evaporationPlace n (rows b) v) (λ x. omega (arith, x, there)) ∙ l .told v there ∙ loss-is b st t rs pa ri w runoff bd can f a sh start m em rp f₂ a₂ sh₂ bd₂ rp₁ c q v o
+        aside (evaporationPlace n (rows b) v) (λ x. omega (arith, x, there)) ∙ l .told v there ∙ ap (lossIn rs m v) (same v (omega (arith, there, reservoirs-count w, w .accepted .few-reservoirs))) ∙ loss-is b st t rs pa ri w runoff bd can f a sh start m em rp f₂ a₂ sh₂ bd₂ rp₁ c q v o
 
     deep-told : getD rp₄ (deepPlace n (rows b) (length (b .reservoirs))) 0 ≡ deepOf b (h .turns)
     deep-told =

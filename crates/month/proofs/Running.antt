@@ -21,8 +21,9 @@ use Rattle.records.specs.Table.{tableOf, sumsOf, sixteenSums}
 use Rattle.turns.specs.declared.lines.Totals.{Totals}
 use Rattle.turns.specs.Lines.{CanServe, Served}
 use Rattle.closing.specs.Losses.{Lost}
+use Rattle.closing.specs.Noting.{WordsNoted}
 use Rattle.opening.specs.Opening.{mostInflow, inflow, CanGather, Gathered, CanOpen}
-use Rattle.places.specs.Board.{BoardOk, monthPlace, duesOf, duePlace, boardLength, monthAt, storageAt, marksAt, takenAt, dueAt}
+use Rattle.places.specs.Board.{BoardOk, monthPlace, storagePlace, duesOf, duePlace, wordsFrom, boardLength, monthAt, storageAt, marksAt, takenAt, dueAt, wordAt}
 use Rattle.turns.specs.State.{stateOf, Setting, Within}
 use Rattle.turns.proofs.Facts.{downhill, path-in}
 use Rattle.opening.proofs.Openings.{gathered-river, opening-is}
@@ -33,8 +34,9 @@ use Rattle.closing.specs.Closing.{CanEnd, Ended}
 use Rattle.month.specs.Run.{CanRun, Ran}
 use Rattle.records.proofs.Decoded.{patterns-are, pattern-is, bodies-rows, bodies-reservoirs, bodies-rights}
 use Rattle.boards.proofs.Bodies.{marks-small}
-use Rattle.month.proofs.Opened.{opened, opened-length, opened-month, opened-storage, opened-word, opened-taken, opened-due, state-opened}
-use Rattle.boards.proofs.Bounds.{month-most, storage-most, marks-most, taken-most, due-most, no-due, capacity-most, limit-most}
+use Rattle.month.proofs.Opened.{opened, opened-length, opened-month, opened-storage, opened-marks, opened-taken, opened-due, opened-short, state-opened}
+use Rattle.boards.proofs.Bounds.{month-most, storage-most, marks-most, taken-most, due-most, word-small, no-due, capacity-most, limit-most}
+use Rattle.month.proofs.Words.{word-fits}
 use Rattle.month.proofs.Closing.{board-left}
 use Rattle.month.proofs.Reporting.{report-left, shorts-left}
 
@@ -58,24 +60,36 @@ module _ (b : Basin) (acc : Accepted b) (bd : List ℕ) (can : possible b bd ≡
   storage-small : (v : ℕ) → v < 8 → storageAt bd v ≤ 2_000_000_000
   storage-small v h = omega (arith, storage-most b bd can v h, capacity-most b acc v)
 
-  word-small : marksAt bd ≤ 256
-  word-small = omega (arith, marks-most b bd can, marks-small (length (b .reservoirs)) (acc .few-reservoirs))
+  marks-low : marksAt bd ≤ 256
+  marks-low = omega (arith, marks-most b bd can, marks-small (length (b .reservoirs)) (acc .few-reservoirs))
 
   -- nothing is due where the basin has no row
-  none-due : (p : ℕ) → duesOf (rows b) ≤ p → getD bd p 0 ≡ 0
-  none-due p h = pick (decLt p boardLength)
-    where
-      told : (p : ℕ) → p < boardLength → duesOf (rows b) ≤ p → getD bd p 0 ≡ 0
-      told = by-places (λ p. duesOf (rows b) ≤ p → getD bd p 0 ≡ 0)
-          (λ o. absurd (omega (arith, o)))
-          (λ v l o. absurd (omega (arith, l, o)))
-          (λ o. absurd (omega (arith, o)))
-          (λ i l o. absurd (omega (arith, l, o)))
-          (λ w k l m o. no-due b bd can w k l m (omega (arith, m, o)))
+  none-due : (p : ℕ) → duesOf (rows b) ≤ p → p < wordsFrom → getD bd p 0 ≡ 0
+  none-due p h l = by-places (λ p. duesOf (rows b) ≤ p → p < wordsFrom → getD bd p 0 ≡ 0)
+      (λ o _. absurd (omega (arith, o)))
+      (λ v k o _. absurd (omega (arith, k, o)))
+      (λ o _. absurd (omega (arith, o)))
+      (λ i k o _. absurd (omega (arith, k, o)))
+      (λ w k j m o _. no-due b bd can w k j m (omega (arith, m, o)))
+      (λ i k o j. absurd (omega (arith, j)))
+      p (omega (arith, l)) h l
 
-      pick : Dec (p < boardLength) → getD bd p 0 ≡ 0
-      pick (yes l) = told p l h
-      pick (no l) = List·getD-eq-default bd 0 {n = p} (omega (arith, size, l))
+  -- no number of the board is large, wherever it is read
+  board-low : (p : ℕ) → getD bd p 0 ≤ 2_816_000_000_000
+  board-low p = pick (decLt p boardLength)
+    where
+      told : (p : ℕ) → p < boardLength → getD bd p 0 ≤ 2_816_000_000_000
+      told = by-places (λ p. getD bd p 0 ≤ 2_816_000_000_000)
+          (omega (arith, month-most b bd can))
+          (λ v l. omega (arith, storage-small v l))
+          (omega (arith, marks-low))
+          (λ i l. omega (arith, taken-small i l))
+          due-small
+          (λ i l. omega (arith, word-small b bd can i l))
+
+      pick : Dec (p < boardLength) → getD bd p 0 ≤ 2_816_000_000_000
+      pick (yes h) = told p h
+      pick (no h) = omega (arith, List·getD-eq-default bd 0 {n = p} (omega (arith, h, size)))
 
   -- the board as the month opens
 
@@ -93,9 +107,10 @@ module _ (b : Basin) (acc : Accepted b) (bd : List ℕ) (can : possible b bd ≡
       told = by-places (λ p. getD (opened bd) p 0 ≤ 1_000_000_000_000_000_000)
           (omega (arith, opened-month bd, month-most b bd can))
           (λ v l. omega (arith, opened-storage bd v l, storage-small v l))
-          (omega (arith, opened-word bd, less (eqb (monthAt bd) 0) (marksAt bd), word-small))
+          (omega (arith, opened-marks bd, less (eqb (monthAt bd) 0) (marksAt bd), marks-low))
           (λ i l. omega (arith, opened-taken bd i l, less (eqb (monthAt bd) 0) (takenAt bd i), taken-small i l))
           (λ w k l m. omega (arith, opened-due bd w k l m, next w k l m))
+          (λ i l. omega (arith, opened-short bd i l, less (eqb (monthAt bd) 0) (wordAt bd i), word-small b bd can i l))
 
       pick : Dec (p < boardLength) → getD (opened bd) p 0 ≤ 1_000_000_000_000_000_000
       pick (yes h) = told p h
@@ -128,7 +143,7 @@ module _ (st rs ps ri runoff bd rp : List ℕ) (c : CanRun st rs ps ri runoff bd
   can-open = record {
     size = c .size;
     few = omega (arith, c .sheet, c .accepted .few-rows);
-    empty = λ p h. none-due (bodies st rs ps ri) (c .accepted) bd (c .can) (c .size) p (omega (arith, h, c .sheet));
+    empty = λ p h l. none-due (bodies st rs ps ri) (c .accepted) bd (c .can) (c .size) p (omega (arith, h, c .sheet)) l;
   }
 
 module _ (st rs ps ri runoff bd rp : List ℕ) (c : CanRun st rs ps ri runoff bd rp) (t : List ℕ) (et : t ≡ tableOf (stationsOf st)) (pa : List (List ℕ)) (epa : pa ≡ sixteenSums ps) where
@@ -142,13 +157,8 @@ module _ (st rs ps ri runoff bd rp : List ℕ) (c : CanRun st rs ps ri runoff bd
   few-rows : rowsOf st ≤ 64
   few-rows = omega (arith, bodies-rows st rs ps ri, c .accepted .few-rows)
 
-  -- a row that the basin lacks sends nothing
   inflow-small : (j : ℕ) → inflow runoff bd j ≤ mostInflow
-  inflow-small j = pick (decLt j 64)
-    where
-      pick : Dec (j < 64) → inflow runoff bd j ≤ mostInflow
-      pick (yes h) = omega (arith, c .small j, due-small b (c .accepted) bd (c .can) (c .size) j 0 h (omega arith))
-      pick (no h) = omega (arith, c .small j, none-due b (c .accepted) bd (c .can) (c .size) (duePlace j 0) (omega (arith, h, c .accepted .few-rows)))
+  inflow-small j = omega (arith, c .small j, board-low b (c .accepted) bd (c .can) (c .size) (duePlace j 0))
 
   pub can-gather : (f a : List ℕ) → 64 ≤ length f → 64 ≤ length a → ((i : ℕ) → getD f i 0 ≡ 0) → ((i : ℕ) → getD a i 0 ≡ 0) → CanGather t runoff bd f a
   can-gather f a hf ha ef ea = record {
@@ -202,6 +212,7 @@ module _ (st rs ps ri runoff bd rp : List ℕ) (c : CanRun st rs ps ri runoff bd
           few = few-rows;
           places = omega (arith, c .room, bodies-rights st rs ps ri, bodies-rows st rs ps ri, q .lines .size);
         };
+        words = λ i h. word-fits b st t rs pa ri setting runoff bd (c .can) f a sh start m month-is rp f₂ a₂ sh₂ bd₂ rp₁ k q i (omega (arith, h, bodies-rights st rs ps ri));
         places = omega (arith, c .room, bodies-rights st rs ps ri, bodies-rows st rs ps ri, bodies-reservoirs st rs ps ri, q .lines .size);
       }
 
@@ -214,9 +225,10 @@ module _ (st rs ps ri runoff bd rp : List ℕ) (c : CanRun st rs ps ri runoff bd
           let z = ended bd₄ rp₄ x in
           let at : ℕ = rowsEnd (length (b .rights)) (rows b) in
           let rp₃ : List ℕ = z .losses-told in
-          let l : Lost rs m (reservoirCount rs) bd₂ (z .told) at (z .lowered) rp₃ = subst (λ (y : ℕ). Lost rs y (reservoirCount rs) bd₂ (z .told) at (z .lowered) rp₃) month₂ (z .lost) in
+          let e : WordsNoted m (length (b .rights)) rp₁ bd₂ (z .noted) = subst (λ (y : ℕ). WordsNoted y (length (b .rights)) rp₁ bd₂ (z .noted)) month₂ (z .words-noted) in
+          let l : Lost rs m (reservoirCount rs) (z .noted) (z .told) at (z .lowered) rp₃ = subst (λ (y : ℕ). Lost rs y (reservoirCount rs) (z .noted) (z .told) at (z .lowered) rp₃) month₂ (z .lost) in
           record {
-            board = board-left b st t rs pa ri setting runoff bd (c .can) f a sh start m month-is rp f₂ a₂ sh₂ bd₂ rp₁ k q (z .told) at (z .lowered) rp₃ l bd₄ (z .gone-on ∙ ap (λ (y : ℕ). set (z .lowered) monthPlace (nextMonth y)) month₂);
-            report = report-left b st t rs pa ri setting runoff bd (c .can) f a sh start m month-is rp f₂ a₂ sh₂ bd₂ rp₁ k q (c .room) (z .told) (z .rows-told) (z .lowered) rp₃ l rp₄ (z .deep-told);
+            board = board-left b st t rs pa ri setting runoff bd (c .can) f a sh start m month-is rp f₂ a₂ sh₂ bd₂ rp₁ k q (z .noted) e (z .told) at (z .lowered) rp₃ l bd₄ (z .gone-on ∙ ap (λ (y : ℕ). set (z .lowered) monthPlace (nextMonth y)) month₂);
+            report = report-left b st t rs pa ri setting runoff bd (c .can) f a sh start m month-is rp f₂ a₂ sh₂ bd₂ rp₁ k q (c .room) (z .told) (z .rows-told) (z .noted) (λ v o. e .front (storagePlace v) (omega arith)) (z .lowered) rp₃ l rp₄ (z .deep-told);
             shorts = shorts-left b st t rs pa ri setting runoff bd (c .can) f a sh start m month-is rp f₂ a₂ sh₂ bd₂ rp₁ k q;
           }

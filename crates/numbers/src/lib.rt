@@ -2,8 +2,8 @@
 // the bound with the number.
 ghost use mathlib.Core.Path.{_≡_};
 ghost use mathlib.Core.Bool.{_||_};
-ghost use Prim.Native.Nat.{_≤_, _<_, min};
-ghost use Rattle.general.specs.Tests.{_and_, between, bit};
+ghost use Prim.Native.Nat.{_≤_, _<_, _^_, min};
+ghost use Rattle.general.specs.Tests.{_and_, between, bit, withBit};
 
 pub mod bytes;
 
@@ -73,6 +73,27 @@ pub fn bit_of(word: u64, i: u64) -> bool
     ensures { λ r. ⌜ r ≡ bit word i ⌝ }
 {
     (word >> i) % 2 == 1
+}
+
+// The word whose bit i alone is set.
+pub fn power(i: u64) -> u64
+    requires { ⌜ i < 64 ⌝ }
+    ensures { λ r. ⌜ r ≡ 2 ^ i ⌝ }
+{
+    1u64 << i
+}
+
+// The word with bit i made 1 or 0; of 32 bits, so that no sum wraps.
+pub fn put_bit(word: u64, i: u64, on: bool) -> u64
+    requires { ⌜ (i < 32) × (word < 2 ^ 32) ⌝ }
+    ensures { λ r. ⌜ r ≡ withBit word i on ⌝ }
+{
+    let one = power(i);
+    let rest = word - (word & one);
+    if on {
+        return rest + one;
+    }
+    rest
 }
 
 // ---- tests joined without a branch: rules of one record are all asked, and their answers put together

@@ -8,7 +8,7 @@ use lib.Dec.{ltb, eqb}
 use lib.ListN.{length, getD}
 use Rattle.general.specs.Sums.{sumTo, only}
 use Rattle.general.specs.Tests.{has}
-use Rattle.places.specs.Board.{marksPlace, duesFrom, duesOf, lastDue, boardLength, monthAt, storageAt, marksAt, takenAt, dueAt, Parts, boardBy}
+use Rattle.places.specs.Board.{marksPlace, duesFrom, duesOf, lastDue, wordsFrom, boardLength, monthAt, storageAt, marksAt, takenAt, dueAt, wordAt, Parts, boardBy}
 use Rattle.records.specs.Table.{pathBy, Downhill, OnTable}
 
 -- the most that enters at one row: runoff within its limit, and what eleven months can have sent
@@ -60,7 +60,7 @@ pub record Gathered (t runoff bd : List ℕ) (k : ℕ) (f a : List ℕ) : Type 0
 
 -- ---- the board as a month opens
 
--- Marks and water taken become 0 in October; the dues come one month nearer, and the last of each row is 0.
+-- Marks, water taken and short words become 0 in October; the dues come one month nearer, and the last of each row is 0.
 unfoldable pub openedParts : List ℕ → Bool → Parts
 openedParts bd october = record {
   month = monthAt bd;
@@ -68,6 +68,7 @@ openedParts bd october = record {
   marks = cond october 0 (marksAt bd);
   taken = λ i. cond october 0 (takenAt bd i);
   due = λ w k. cond (eqb k 11) 0 (dueAt bd w (suc k));
+  word = λ i. cond october 0 (wordAt bd i);
 }
 
 unfoldable pub openedBoard : List ℕ → Bool → List ℕ
@@ -77,13 +78,20 @@ openedBoard bd october = boardBy (openedParts bd october)
 pub record CanOpen (n : ℕ) (bd : List ℕ) : Type 0 where
   pub size : length bd ≡ boardLength
   pub few : n ≤ 64
-  pub empty : (p : ℕ) → duesOf n ≤ p → getD bd p 0 ≡ 0
+  pub empty : (p : ℕ) → duesOf n ≤ p → p < wordsFrom → getD bd p 0 ≡ 0
 
 -- ---- its three steps, place by place, of which two are made for n rows
 
--- marks and water taken become 0 in October
+-- what stands from one place up to another becomes 0
+unfoldable pub zeroedAt : List ℕ → ℕ → ℕ → ℕ → ℕ
+zeroedAt bd from to p = cond (ltb p from) (getD bd p 0) (cond (ltb p to) 0 (getD bd p 0))
+
+-- marks and water taken become 0 in October, and so do the short words
 unfoldable pub clearedAt : List ℕ → Bool → ℕ → ℕ
-clearedAt bd october p = cond (ltb p marksPlace) (getD bd p 0) (cond (ltb p duesFrom) (cond october 0 (getD bd p 0)) (getD bd p 0))
+clearedAt bd october p =
+    cond (ltb p marksPlace) (getD bd p 0)
+    (cond (ltb p duesFrom) (cond october 0 (getD bd p 0))
+    (cond (ltb p wordsFrom) (getD bd p 0) (cond october 0 (getD bd p 0))))
 
 -- each due of theirs but the very last becomes the next one on the board
 unfoldable pub movedAt : List ℕ → ℕ → ℕ → ℕ

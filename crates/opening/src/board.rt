@@ -4,14 +4,26 @@ ghost use Prim.Native.Nat.{_≤_};
 ghost use lib.ListN.{length};
 ghost use Rattle.general.specs.Tables.{tab};
 ghost use Rattle.places.specs.Board.{boardLength};
-ghost use Rattle.opening.specs.Opening.{CanOpen, clearedAt, movedAt, endedAt, openedBoard};
+ghost use Rattle.opening.specs.Opening.{CanOpen, zeroedAt, clearedAt, movedAt, endedAt, openedBoard};
+use places::board::BOARD_LENGTH;
 use places::board::DUES;
 use places::board::MARKS;
 use places::board::MONTHS_DUE;
+use places::board::WORDS;
 use places::board::due_place;
 use places::board::dues_of;
 
-// In October marks and water taken are cleared. Storages, before them, and dues, after them, stay.
+// Zeros from one place up to another.
+fn clear(board: &mut [u64], from: usize, to: usize)
+    requires { ⌜ (length (now board) ≡ boardLength) × (from ≤ to) × (to ≤ boardLength) ⌝ }
+    ensures { λ _. ⌜ now (board .exit) ≡ tab boardLength (zeroedAt (now (board .entry)) from to) ⌝ }
+{
+    for p in from..to {
+        board[p] = 0;
+    }
+}
+
+// In October marks, water taken and short words are cleared. Storages, before them, and dues, in between, stay.
 fn clear_year(board: &mut [u64], october: bool)
     requires { ⌜ length (now board) ≡ boardLength ⌝ }
     ensures { λ _. ⌜ now (board .exit) ≡ tab boardLength (clearedAt (now (board .entry)) october) ⌝ }
@@ -19,9 +31,8 @@ fn clear_year(board: &mut [u64], october: bool)
     if !october {
         return;
     }
-    for p in MARKS..DUES {
-        board[p] = 0;
-    }
+    clear(board, MARKS, DUES);
+    clear(board, WORDS, BOARD_LENGTH);
 }
 
 // The dues of n rows as one list, so that they move as one block. The last of a row takes the next row's first, until `clear_last`.

@@ -40,8 +40,15 @@ duePlace w k = duesOf w + k
 abbrev pub lastDue : ℕ → Bool
 lastDue p = eqb ((p - duesFrom) % 11) 10
 
+-- the short words: of right i, of up to 256, bit m is set if it was short in month m of this water year (02, No. 6)
+abbrev pub wordsFrom : ℕ
+wordsFrom = 970
+
+abbrev pub wordPlace : ℕ → ℕ
+wordPlace i = wordsFrom + i
+
 abbrev pub boardLength : ℕ
-boardLength = 970
+boardLength = 1226
 
 -- ---- read off a board
 
@@ -62,6 +69,9 @@ abbrev pub dueAt : List ℕ → ℕ → ℕ → ℕ
 dueAt l w zero = 0
 dueAt l w (suc k) = getD l (duePlace w k) 0
 
+abbrev pub wordAt : List ℕ → ℕ → ℕ
+wordAt l i = getD l (wordPlace i) 0
+
 -- ---- a board with room for more in every number, so that no sum wraps
 
 abbrev pub roomy : ℕ
@@ -76,13 +86,14 @@ pub record BoardOk (bd : List ℕ) (most : ℕ) : Type 0 where
 
 -- ---- a board made of its parts
 
--- storages by reservoir, water taken by right, dues by row and by the months until they arrive, counted from 1
+-- storages by reservoir, water taken and short words by right, dues by row and by the months until they arrive, counted from 1
 pub record Parts : Type 0 where
   pub month : ℕ
   pub storage : ℕ → ℕ
   pub marks : ℕ
   pub taken : ℕ → ℕ
   pub due : ℕ → ℕ → ℕ
+  pub word : ℕ → ℕ
 
 -- the number at place p
 unfoldable pub partAt : Parts → ℕ → ℕ
@@ -91,7 +102,8 @@ partAt x p =
     (cond (ltb p marksPlace) (x .storage (p - storagePlace 0))
     (cond (eqb p marksPlace) (x .marks)
     (cond (ltb p duesFrom) (x .taken (p - takenPlace 0))
-    (x .due ((p - duesFrom) / 11) (suc ((p - duesFrom) % 11))))))
+    (cond (ltb p wordsFrom) (x .due ((p - duesFrom) / 11) (suc ((p - duesFrom) % 11)))
+    (x .word (p - wordPlace 0))))))
 
 unfoldable pub boardBy : Parts → List ℕ
 boardBy x = tab boardLength (partAt x)

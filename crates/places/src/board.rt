@@ -1,10 +1,10 @@
 // The places of a board.
 ghost use mathlib.Core.Path.{_≡_};
 ghost use Prim.Native.Nat.{_≤_, _<_};
-ghost use Rattle.places.specs.Board.{storagePlace, takenPlace, duesOf, duePlace};
+ghost use Rattle.places.specs.Board.{storagePlace, takenPlace, duesOf, duePlace, wordPlace};
 
 // The numbers of a board.
-pub const BOARD_LENGTH: usize = 970;
+pub const BOARD_LENGTH: usize = 1226;
 
 // The month of the year that comes next.
 pub const MONTH: usize = 0;
@@ -16,6 +16,9 @@ pub const MARKS: usize = 9;
 pub const DUES: usize = 266;
 
 pub const MONTHS_DUE: usize = 11;
+
+// The first of the short words.
+pub const WORDS: usize = 970;
 
 // The storage of reservoir v.
 pub fn storage_place(v: usize) -> usize
@@ -47,4 +50,12 @@ pub fn due_place(w: usize, k: usize) -> usize
     ensures { λ p. ⌜ p ≡ duePlace w k ⌝ }
 {
     dues_of(w) + k
+}
+
+// In which months of this water year right i was short, as the bits of a word.
+pub fn word_place(i: usize) -> usize
+    requires { ⌜ i ≤ 256 ⌝ }
+    ensures { λ p. ⌜ p ≡ wordPlace i ⌝ }
+{
+    WORDS + i
 }

@@ -11,6 +11,8 @@ pub mod Resumed
 pub mod Years
 pub mod Sums
 pub mod Bounds
+pub mod Noting
+pub mod Shortness
 pub mod Possible
 pub mod Tight
 pub mod October

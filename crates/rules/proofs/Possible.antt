@@ -16,10 +16,15 @@ use Rattle.rules.specs.Accepted.{GoodReservoir, Accepted, mostAmount}
 use Rattle.rules.specs.Water.{startingStorage, startingDues}
 use Rattle.rules.specs.Theorems.{mostDue, Possible, FreshFacts}
 use Rattle.rules.proofs.Pending.{pending-on, pending-ends, pending-begins}
+use Rattle.rules.proofs.Noting.{Noted, none-noted, month-noted}
+use Rattle.rules.proofs.Shortness.{fresh-short}
 use Rattle.rules.proofs.Bounds.{month-returns-le, CarriedCapped, month-capped, month-in-year, month-count}
 
 pub capped-of : (b : Basin) (s : Start) → Possible b s → CarriedCapped b (s .carried)
 capped-of b s p = record { storages-most = p .storages-most; taken-most = p .taken-most; taken-count = p .taken-count; marks-count = p .marks-count }
+
+pub noted-of : (b : Basin) (s : Start) → Possible b s → Noted b ((s .carried) .shorts)
+noted-of b s p = record { count = p .shorts-count; months = p .shorts-months }
 
 start-le : (b : Basin) → Accepted b → (v : ℕ) → (reservoirAt b v) .start ≤ (reservoirAt b v) .capacity
 start-le b acc v = pick (decLt v (length (b .reservoirs)))
@@ -38,6 +43,8 @@ fresh-possible b acc = record {
   taken-count = length-replicate _ 0;
   taken-most = λ i. omega (arith, getD-zeros (length (b .rights)) i);
   due-most = λ w k h l. omega arith;
+  shorts-count = none-noted b .count;
+  shorts-months = none-noted b .months;
 }
 
 pub fresh-facts : (b : Basin) → Accepted b → FreshFacts b
@@ -46,6 +53,7 @@ fresh-facts b acc = record {
   is-possible = fresh-possible b acc;
   storage = sum-map (λ (v : Reservoir). v .start) (b .reservoirs);
   dues = sumTo-zero₂ (rows b) 11;
+  none-short = fresh-short b;
 }
 
 -- a tally that begins stands at its start
@@ -59,6 +67,8 @@ begun-possible b s p = record {
   taken-count = p .taken-count;
   taken-most = p .taken-most;
   due-most = λ w k h l. omega (arith, pending-begins b s w k l, p .due-most w k h l);
+  shorts-count = p .shorts-count;
+  shorts-months = p .shorts-months;
 }
 
 due-on : (b : Basin) (s : Start) (hs : List MonthRun) (h : MonthRun) (w k : ℕ) → returnsAt b (h .turns) w k ≤ 256 * mostAmount
@@ -74,6 +84,7 @@ unfolding accept nextRun standing
 accept-possible b acc t c p =
     let arrived : List ℕ = arriving b (t .start) (t .months) in
     let z : CarriedCapped b ((month b (t .carried) (c .runoff) arrived) .carried) = month-capped b (t .carried) (c .runoff) arrived (capped-of b (standing b t) p) in
+    let n : Noted b (((month b (t .carried) (c .runoff) arrived) .carried) .shorts) = month-noted b (t .carried) (c .runoff) arrived (noted-of b (standing b t) p) in
     record {
       month-in-year = month-in-year b (t .carried) (c .runoff) arrived (p .month-in-year);
       storages-count = month-count b (t .carried) (c .runoff) arrived;
@@ -82,6 +93,8 @@ accept-possible b acc t c p =
       taken-count = z .taken-count;
       taken-most = z .taken-most;
       due-most = λ w k h l. due-on b (t .start) (t .months) (month b (t .carried) (c .runoff) arrived) w k (month-returns-le b acc (t .carried) (c .runoff) arrived w k) (p .due-most w) l;
+      shorts-count = n .count;
+      shorts-months = n .months;
     }
 
 pub call-possible : (b : Basin) → Accepted b → (t : Tally) (c : Call) → Possible b (standing b t) → Possible b (standing b (afterCall b t c))

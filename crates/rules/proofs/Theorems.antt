@@ -1,14 +1,15 @@
 -- The theorems of specs/Theorems.antt. Assumes nothing.
-use mathlib.Core.Path.{sym, ap, _∙_, subst}
+use mathlib.Core.Path.{_≡_, sym, ap, _∙_, subst}
 use mathlib.Core.List.{List}
 use Rattle.general.specs.Tables.{tab}
 use Rattle.rules.specs.Basin.{rows}
 use Rattle.rules.specs.Tally.{Call, Tally, begun, standing, afterCalls}
 use Rattle.rules.specs.Years.{allCalls}
 use Rattle.rules.specs.Water.{WaterKept}
+use Rattle.rules.specs.Shortness.{howMany, shortsOf, shortNow}
 use Rattle.rules.specs.Turn.{pathOf}
 use Rattle.rules.specs.River.{availableAt, lowest}
-use Rattle.rules.specs.Theorems.{Splitting, DeepBounds, Paths, TightSpots, Areas, Possible, Fresh, CountsAsCalls, Water, StartKept, Checkpoints, Unclipped, PendingOn, PendingEnds, PendingBegins, AlwaysPossible, Resumed, OctoberAccepted}
+use Rattle.rules.specs.Theorems.{Splitting, DeepBounds, Paths, TightSpots, Areas, Possible, Fresh, CountsAsCalls, Water, StartKept, ShortMonths, Checkpoints, Unclipped, PendingOn, PendingEnds, PendingBegins, AlwaysPossible, Resumed, OctoberAccepted}
 use Rattle.rules.proofs.Path.{path-ends, path-once, path-rising}
 use Rattle.rules.proofs.Tight.{called-first, low-first}
 use Rattle.rules.proofs.River.{lesser-signed, lowest-least}
@@ -19,6 +20,7 @@ use Rattle.rules.proofs.Years.{entries-calls, resumes}
 use Rattle.rules.proofs.Pending.{pending-on, pending-ends, pending-begins}
 use Rattle.rules.proofs.Sums.{begun-ok, calls-ok, calls-start, water-kept}
 use Rattle.rules.proofs.October.{october-facts}
+use Rattle.rules.proofs.Shortness.{calls-short}
 use Rattle.rules.proofs.Possible.{fresh-facts, begun-possible, calls-possible}
 
 pub splitting : Splitting
@@ -50,6 +52,10 @@ water b acc s p xs =
 pub startKept : StartKept
 unfolding begun
 startKept b s xs = ap (λ (t : Tally). t .start) (entries-calls b (begun s) xs) ∙ calls-start b (begun s) (allCalls b (begun s) xs)
+
+pub shortMonths : ShortMonths
+shortMonths b s p xs i l =
+    subst (λ (t : Tally). howMany (shortsOf (t .carried) i) ≡ shortNow s (t .months) i) (sym (entries-calls b (begun s) xs)) (calls-short b s i l p (allCalls b (begun s) xs))
 
 pub checkpoints : Checkpoints
 checkpoints b acc s p runoff = (month-ok b acc (s .carried) (p .storages-count) runoff (tab (rows b) (λ w. s .due w 1))) .sound

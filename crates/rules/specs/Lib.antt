@@ -8,6 +8,7 @@ pub mod Month
 pub mod Tally
 pub mod Years
 pub mod Water
+pub mod Shortness
 pub mod Accepted
 pub mod October
 pub mod Theorems

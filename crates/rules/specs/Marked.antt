@@ -1,7 +1,7 @@
 -- The list marked M (01, "One October, whole") as one claim: each field is an item. After it, as a second claim, small cases that October does not tell
 -- apart from a slip.
 use mathlib.Core.Path.{_≡_}
-use mathlib.Core.Bool.{true, false}
+use mathlib.Core.Bool.{Bool, true, false}
 use mathlib.Core.List.{List, [], _∷_, _++_}
 use mathlib.Core.Option.{none, some}
 use Prim.Native.Nat.{ℕ, suc, _+_, _-_}
@@ -19,6 +19,7 @@ use Rattle.rules.specs.Answers.{told}
 use Rattle.rules.specs.Tally.{Call, Start, Tally, fresh, begun, pending, nextRun, afterCalls, answers}
 use Rattle.rules.specs.Years.{YearRun, yearly, afterEntry, entryAnswer}
 use Rattle.rules.specs.Water.{totalRunoff, totalOutflow, totalConsumption, totalEvaporation, totalDeep, inTransit, startingStorage, startingDues}
+use Rattle.rules.specs.Shortness.{shortNow}
 use Rattle.rules.specs.October.{allMonths, plainRight, storageRight, returningRight, octoberStations, octoberReservoir, october, octoberCall}
 
 abbrev pub level : ℕ → ℕ → Level
@@ -29,6 +30,13 @@ afterOctober = afterCalls october (fresh october) (octoberCall ∷ [])
 
 abbrev pub octoberRun : MonthRun
 octoberRun = nextRun october (fresh october) octoberCall
+
+-- a right's months, short in none, and in October alone
+abbrev pub neverShort : List Bool
+neverShort = replicate 12 false
+
+abbrev pub shortInOctober : List Bool
+shortInOctober = true ∷ replicate 11 false
 
 -- ---- the list marked M
 
@@ -44,7 +52,8 @@ pub record Marked : Type 0 where
       ∷ []
   pub october-levels : (octoberRun .closed) .levels ≡ level 1899 1299 ∷ level 798 798 ∷ level 0 0 ∷ []
   pub october-evaporation : octoberRun .evaporation ≡ 75 ∷ []
-  pub october-carried : afterOctober .carried ≡ record { m = 1; storages = 1026 ∷ []; marks = false ∷ []; taken = 0 ∷ 0 ∷ 701 ∷ 0 ∷ 0 ∷ [] }
+  pub october-carried : afterOctober .carried
+      ≡ record { m = 1; storages = 1026 ∷ []; marks = false ∷ []; taken = 0 ∷ 0 ∷ 701 ∷ 0 ∷ 0 ∷ []; shorts = neverShort ∷ neverShort ∷ shortInOctober ∷ neverShort ∷ shortInOctober ∷ [] }
   -- of 805 that return at the last row, 242 are pending for November and 161 for December: 403 in all
   pub october-pending : tab 3 (λ w. tab 11 (λ k. pending october (afterOctober .start) (afterOctober .months) w (suc k))) ≡ replicate 11 0 ∷ replicate 11 0 ∷ (242 ∷ 161 ∷ replicate 9 0) ∷ []
   pub october-in-transit : inTransit october (afterOctober .start) (afterOctober .months) ≡ 403
@@ -177,14 +186,21 @@ afterSeeping = afterCalls seepingBasin (fresh seepingBasin) (sheet 100 0 ∷ [])
 
 -- an October that begins with water taken and a filled mark
 abbrev pub secondOctober : State
-secondOctober = opening filledBasin (record { m = 0; storages = 70 ∷ []; marks = true ∷ []; taken = 100 ∷ 0 ∷ [] }) (100 ∷ 0 ∷ []) (0 ∷ 0 ∷ [])
+secondOctober = opening filledBasin (record { m = 0; storages = 70 ∷ []; marks = true ∷ []; taken = 100 ∷ 0 ∷ []; shorts = [] }) (100 ∷ 0 ∷ []) (0 ∷ 0 ∷ [])
 
 -- January, 30 in the lake, and returns on their way: 7 to the first row next month, 5 to the second a month later
 abbrev pub january : Start
-january = record { carried = record { m = 3; storages = 30 ∷ []; marks = false ∷ []; taken = [] }; due = λ w k. getD (getD ((7 ∷ []) ∷ (0 ∷ 5 ∷ []) ∷ []) w []) (k - 1) 0 }
+january = record { carried = record { m = 3; storages = 30 ∷ []; marks = false ∷ []; taken = []; shorts = [] }; due = λ w k. getD (getD ((7 ∷ []) ∷ (0 ∷ 5 ∷ []) ∷ []) w []) (k - 1) 0 }
 
 abbrev pub afterJanuary : Tally
 afterJanuary = afterCalls shallowBasin (begun january) (sheet 100 0 ∷ [])
+
+-- a year in which a right was short in October and has marks for January and February too
+abbrev pub marksBefore : ℕ → Start
+marksBefore m = record { carried = record { m = m; storages = 0 ∷ []; marks = false ∷ []; taken = 0 ∷ []; shorts = (true ∷ false ∷ false ∷ true ∷ true ∷ replicate 7 false) ∷ [] }; due = λ w k. 0 }
+
+abbrev pub markedBy : ℕ → Call → Tally
+markedBy m c = afterCalls drawnBasin (begun (marksBefore m)) (c ∷ [])
 
 -- A year whose October is over the limit, and one whose last two months are, at the second row and at the first. The reports of the basin, of two rows, one
 -- reservoir and no right, have six numbers.
@@ -237,7 +253,7 @@ pub record Told : Type 0 where
   -- one fill a year: the mark stands after a release
   pub filled-once : grantsIn filledBasin (sheet 100 0 ∷ []) (sheet 100 0) ≡
       record { fromRiver = 0; fromStorage = 0; reason = met; station = 0 } ∷ record { fromRiver = 30; fromStorage = 0; reason = met; station = 0 } ∷ []
-  pub filled-mark : (afterCalls filledBasin (fresh filledBasin) (sheet 100 0 ∷ [])) .carried ≡ record { m = 1; storages = 70 ∷ []; marks = true ∷ []; taken = 100 ∷ 0 ∷ [] }
+  pub filled-mark : (afterCalls filledBasin (fresh filledBasin) (sheet 100 0 ∷ [])) .carried ≡ record { m = 1; storages = 70 ∷ []; marks = true ∷ []; taken = 100 ∷ 0 ∷ []; shorts = neverShort ∷ neverShort ∷ [] }
   -- 805 by 50 and 30 percent: 161 go deep; by twelve zeros everything does; by percents that sum to 100 nothing
   pub split-in-part : shares 805 (50 ∷ 30 ∷ []) ≡ 402 ∷ 242 ∷ []
   pub deep-in-part : deepLoss 805 (50 ∷ 30 ∷ []) ≡ 161
@@ -251,6 +267,11 @@ pub record Told : Type 0 where
   -- October clears marks and taken
   pub october-clears-marks : secondOctober .marks ≡ false ∷ []
   pub october-clears-taken : secondOctober .taken ≡ 0 ∷ 0 ∷ []
+  -- a wet January clears its own mark alone, and two short months are left; a dry October leaves its own alone
+  pub month-marks : ((markedBy 3 (sheet 600 0)) .carried) .shorts ≡ (true ∷ false ∷ false ∷ false ∷ true ∷ replicate 7 false) ∷ []
+  pub month-short : shortNow (marksBefore 3) ((markedBy 3 (sheet 600 0)) .months) 0 ≡ 2
+  pub october-marks : ((markedBy 0 (sheet 0 0)) .carried) .shorts ≡ shortInOctober ∷ []
+  pub october-short : shortNow (marksBefore 0) ((markedBy 0 (sheet 0 0)) .months) 0 ≡ 1
   -- a list that starts in January: what is due arrives, what is due later is pending, and all of it counts in the sum: 100 + 30 + 12 = 107 + 30 + 5
   pub started-flow : (nextRun shallowBasin (begun january) (sheet 100 0)) .closed .levels ≡ level 107 107 ∷ level 107 107 ∷ []
   pub started-pending : tab 2 (λ w. tab 3 (λ k. pending shallowBasin (afterJanuary .start) (afterJanuary .months) w (suc k))) ≡ (0 ∷ 0 ∷ 0 ∷ []) ∷ (5 ∷ 0 ∷ 0 ∷ []) ∷ []
@@ -259,7 +280,7 @@ pub record Told : Type 0 where
   pub started-month : (afterJanuary .carried) .m ≡ 4
   -- a year run from January: nine calls, and October's sheet is not looked at; of the other nothing happens; a list of 71 numbers has no room for twelve reports
   pub run-made : entryAnswer shallowBasin (begun january) (yearly wetOctober) ≡ record { number = 0; place = 9 }
-  pub run-ends : (afterEntry shallowBasin (begun january) (yearly wetOctober)) .carried ≡ record { m = 0; storages = 0 ∷ []; marks = false ∷ []; taken = [] }
+  pub run-ends : (afterEntry shallowBasin (begun january) (yearly wetOctober)) .carried ≡ record { m = 0; storages = 0 ∷ []; marks = false ∷ []; taken = []; shorts = [] }
   pub run-refused : entryAnswer shallowBasin (begun january) (yearly (wetAutumn 72)) ≡ record { number = 8; place = 1 }
   pub run-undone : afterEntry shallowBasin (begun january) (yearly (wetAutumn 72)) ≡ begun january
   pub run-short : entryAnswer shallowBasin (begun january) (yearly (wetAutumn 71)) ≡ record { number = 6; place = 0 }

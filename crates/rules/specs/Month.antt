@@ -3,7 +3,7 @@ use mathlib.Core.Bool.{Bool, false, not, cond}
 use mathlib.Core.List.{List, [], _∷_, map}
 use Prim.Native.Nat.{ℕ, suc, _+_, _-_, _*_, _/_, min}
 use lib.Dec.{leb, eqb}
-use lib.ListN.{length, getD, replicate}
+use lib.ListN.{length, getD, set, replicate}
 use lib.IntN.{ℤ, pos}
 use Rattle.general.specs.Sums.{sumOver, sumTo, only}
 use Rattle.general.specs.Tables.{tab}
@@ -14,12 +14,14 @@ use Rattle.rules.specs.River.{Level}
 use Rattle.rules.specs.Returns.{consumption, partsOf, returnedAt, lostDeep}
 use Rattle.rules.specs.Turn.{State, Reason, met, calledOut, riverLow, storageOut, Grant, granted, Turn, turn}
 
--- What is carried from month to month, but for the returns on their way: the next month m, storages, filled marks, water taken this year.
+-- What is carried from month to month, but for the returns on their way: the next month m, storages, filled marks, water taken this year, and for each
+-- right in which of the twelve months of this year it was short (02, No. 6).
 pub record Carried : Type 0 where
   pub m : ℕ
   pub storages : List ℕ
   pub marks : List Bool
   pub taken : List ℕ
+  pub shorts : List (List Bool)
 
 -- ---- steps 1 and 2: the river before the first right
 
@@ -112,6 +114,26 @@ evaporations b m storages = tab (length (b .reservoirs)) (λ v. evaporation m (r
 unfoldable pub evaporated : Basin → List ℕ → List ℕ → List ℕ
 evaporated b storages losses = tab (length (b .reservoirs)) (λ v. getD storages v 0 - getD losses v 0)
 
+-- ---- who was short (02, No. 6)
+
+unfoldable pub reasonNumber : Reason → ℕ
+reasonNumber met = 0
+reasonNumber calledOut = 1
+reasonNumber riverLow = 2
+reasonNumber storageOut = 3
+
+-- a grant that is less than was asked for has a reason
+unfoldable pub isShort : Grant → Bool
+isShort g = not (eqb (reasonNumber (g .reason)) 0)
+
+-- In October a new water year begins, in which nobody has been short.
+unfoldable pub openingShorts : Basin → Carried → List (List Bool)
+openingShorts b c = cond (eqb (c .m) 0) (replicate (length (b .rights)) (replicate 12 false)) (c .shorts)
+
+-- Month m is noted for each right, short or not; what was noted for other months stays.
+unfoldable pub noted : Basin → ℕ → List Turn → List (List Bool) → List (List Bool)
+noted b m ts shorts = tab (length (b .rights)) (λ i. set (getD shorts i []) m (isShort (grantAt ts i)))
+
 -- ---- the whole month
 
 -- A month run: its runoff; the river before the first right; the turns; the state that step 3 leaves; what evaporates; what is carried on.
@@ -140,20 +162,15 @@ month b c runoff arriving =
       turns = ts;
       closed = e;
       evaporation = losses;
-      carried = record { m = nextMonth (c .m); storages = evaporated b (e .storages) losses; marks = e .marks; taken = e .taken };
+      carried = record {
+        m = nextMonth (c .m);
+        storages = evaporated b (e .storages) losses;
+        marks = e .marks;
+        taken = e .taken;
+        shorts = noted b (c .m) ts (openingShorts b c);
+      };
     }
 
--- ---- what the report and the answer say of it
-
-unfoldable pub reasonNumber : Reason → ℕ
-reasonNumber met = 0
-reasonNumber calledOut = 1
-reasonNumber riverLow = 2
-reasonNumber storageOut = 3
-
-unfoldable pub isShort : Turn → Bool
-isShort t = not (eqb (reasonNumber ((t .grant) .reason)) 0)
-
--- the number of rights short
+-- the number of rights short, which is its answer
 unfoldable pub shortCount : List Turn → ℕ
-shortCount ts = sumOver (λ (t : Turn). only (isShort t) 1) ts
+shortCount ts = sumOver (λ (t : Turn). only (isShort (t .grant)) 1) ts

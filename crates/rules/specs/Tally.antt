@@ -63,13 +63,14 @@ pub record Tally : Type 0 where
 unfoldable pub begun : Start → Tally
 begun s = record { start = s; carried = s .carried; months = [] }
 
--- The fresh start: October, reservoirs as the basin file has them, nothing taken, filled or due.
+-- The fresh start: October, reservoirs as the basin file has them, nothing taken, filled or due, nobody short.
 unfoldable pub freshCarried : Basin → Carried
 freshCarried b = record {
   m = 0;
   storages = map (λ (v : Reservoir). v .start) (b .reservoirs);
   marks = replicate (length (b .reservoirs)) false;
   taken = replicate (length (b .rights)) 0;
+  shorts = replicate (length (b .rights)) (replicate 12 false);
 }
 
 unfoldable pub freshStart : Basin → Start

@@ -17,6 +17,7 @@ use Rattle.rules.specs.Month.{returnsAt, onLine, areaAt, MonthRun, month
 use Rattle.rules.specs.Tally.{Start, freshStart, Tally, begun, standing, afterCalls, pending}
 use Rattle.rules.specs.Years.{Entry, afterEntries, allCalls}
 use Rattle.rules.specs.Water.{startingStorage, startingDues, Checkpoint, MonthSound, WaterKept}
+use Rattle.rules.specs.Shortness.{howMany, shortsOf, sinceOctober, shortIn, shortNow}
 use Rattle.rules.specs.Accepted.{Connected, Accepted}
 use Rattle.rules.specs.October.{october}
 
@@ -95,12 +96,15 @@ pub record Possible (b : Basin) (s : Start) : Type 0 where
   pub taken-count : length ((s .carried) .taken) ≡ length (b .rights)
   pub taken-most : (i : ℕ) → getD ((s .carried) .taken) i 0 ≤ (rightAt b i) .limit
   pub due-most : (w k : ℕ) → 1 ≤ k → k < 12 → s .due w k ≤ mostDue k
+  pub shorts-count : length ((s .carried) .shorts) ≡ length (b .rights)
+  pub shorts-months : (i : ℕ) → i < length (b .rights) → length (shortsOf (s .carried) i) ≡ 12
 
--- The fresh start is one; its storages sum to the starting storages, and nothing is due.
+-- The fresh start is one; its storages sum to the starting storages, nothing is due, and nobody has been short before it.
 pub record FreshFacts (b : Basin) : Type 0 where
   pub is-possible : Possible b (freshStart b)
   pub storage : startingStorage (freshStart b) ≡ sumOver (λ (v : Reservoir). v .start) (b .reservoirs)
   pub dues : startingDues b (freshStart b) ≡ 0
+  pub none-short : (hs : List MonthRun) (i : ℕ) → shortNow (freshStart b) hs i ≡ shortIn i (sinceOctober hs)
 
 abbrev pub Fresh : Type 0
 Fresh = (b : Basin) → Accepted b → FreshFacts b
@@ -119,6 +123,12 @@ Water = (b : Basin) → Accepted b → (s : Start) → Possible b s → (xs : Li
 -- the sum is counted from that start
 abbrev pub StartKept : Type 0
 StartKept = (b : Basin) (s : Start) (xs : List Entry) → (afterEntries b (begun s) xs) .start ≡ s
+
+-- ---- short months: what the tally has noted for a right are the months of the present water year in which its grants were short
+
+abbrev pub ShortMonths : Type 0
+ShortMonths = (b : Basin) (s : Start) → Possible b s → (xs : List Entry) (i : ℕ) → i < length (b .rights)
+    → howMany (shortsOf ((afterEntries b (begun s) xs) .carried) i) ≡ shortNow s ((afterEntries b (begun s) xs) .months) i
 
 -- ---- checkpoints: in no month does a row have negative flow, or more available flow than flow
 

@@ -2,6 +2,7 @@
 use mathlib.Core.Path.{_≡_}
 use mathlib.Core.Bool.{true, false}
 use mathlib.Core.List.{List}
+use mathlib.Core.Option.{none}
 use Prim.Native.Nat.{ℕ}
 use lib.ListN.{length}
 use Rattle.general.proofs.Tests.{eqb-same, eqb-other, eq-of}
@@ -53,6 +54,10 @@ module _ (f board : List ℕ) where
       let k = lent-clear f (boardFits board) board a e n in
       record { file-ok = k .file-ok; size = eq-of (k .lists-ok); board-ok = k .board-ok }
 
+  pub clear-none : Clear → stockRefusal f board ≡ none
+  unfolding stockRefusal
+  clear-none k = lent-none f (boardFits board) board (k .file-ok) (fits (k .file-ok) (k .size)) (k .board-ok)
+
   pub stock-made : Clear → (s d : ℕ) → s ≡ storageSum (basinOf f) board → d ≡ dueSum (basinOf f) board → record { number = 0; place = 0; storage = s; due = d } ≡ stockOf f board
-  unfolding stockOf stockSettled stockRefusal
-  stock-made k s d es ed = rw (lent-none f (boardFits board) board (k .file-ok) (fits (k .file-ok) (k .size)) (k .board-ok), es, ed)
+  unfolding stockOf stockSettled
+  stock-made k s d es ed = rw (clear-none k, es, ed)

@@ -1,4 +1,4 @@
-// The stock of a board: all water stored and all water on its way back.
+// What a board tells: its stock, which is all water stored and all water on its way back; and the short months of a right.
 ghost use mathlib.Core.Path.{_≡_};
 ghost use Rattle.answers.specs.Answers.{answerOf, settled};
 ghost use Rattle.stock.specs.Stock.{stockRefusal, stockOf, stockTold};
@@ -14,6 +14,8 @@ use sections::RESERVOIRS;
 use sections::RIGHTS;
 use sections::STATIONS;
 use sections::section;
+
+pub mod months;
 
 // An answer with the sums of a board, which are 0 where the board is refused.
 #[repr(C)]

@@ -3,11 +3,11 @@ use mathlib.Core.Bool.{Bool, true, false, _&&_}
 use mathlib.Core.List.{List}
 use mathlib.Core.Path.{_≡_, refl, sym, _∙_}
 use Prim.Native.Nat.{ℕ, zero, suc, _+_, _-_, _/_, _^_, _≤_, _<_}
-use native.Mathlib.Nat.{pow-suc}
 use native.Mathlib.Omega.{arith}
 use lib.Dec.{ltb, eqb}
 use lib.ListN.{length, getD, set, length-set}
 use lib.Seq.{getD-set-same, getD-set-other}
+use Rattle.general.proofs.Bits.{bit-fits}
 use Rattle.general.proofs.Tests.{lt-of}
 use Rattle.places.specs.Board.{storagePlace, marksPlace, takenPlace, duesFrom, boardLength, storageAt, marksAt, takenAt}
 use Rattle.rules.specs.Basin.{Basin}
@@ -17,15 +17,7 @@ use Rattle.general.specs.Tests.{bit}
 use Rattle.grants.specs.Stages.{markedBoard, boardStored, boardDrawn}
 use Rattle.turns.specs.State.{Kept}
 use Rattle.grants.proofs.RightKinds.{nine}
-use Rattle.turns.proofs.Places.{bit-suc, not-odd, poured-other}
-
--- a mark that was not set is one more within the word
-mark-fits : (v n w : ℕ) → v < n → bit w v ≡ false → w < 2 ^ n → w + 2 ^ v < 2 ^ n
-mark-fits v zero w h e l = absurd (omega (arith, h))
-mark-fits zero (suc n) w h e l = let o = not-odd w e in omega (arith, o, l, pow-suc 2 n)
-mark-fits (suc v) (suc n) w h e l =
-    let z = mark-fits v n (w / 2) (omega (arith, h)) (sym (bit-suc w v) ∙ e) (omega (arith, l, pow-suc 2 n)) in
-    omega (arith, z, pow-suc 2 n, pow-suc 2 v)
+use Rattle.turns.proofs.Places.{poured-other}
 
 -- ---- step by step
 
@@ -62,7 +54,7 @@ module _ (b : Basin) (bd : List ℕ) (v : ℕ) (few : length (b .reservoirs) ≤
     both-nine = nine v i d bd (omega (arith, hv, few))
 
     word-marked : (t : Bool) → (t ≡ true → bit (marksAt bd) v ≡ false) → marksAt bd < 2 ^ length (b .reservoirs) → marksAt (markedBoard t both v) < 2 ^ length (b .reservoirs)
-    word-marked true e l = omega (arith, getD-set-same both marksPlace (marksAt both + 2 ^ v) 0 (omega (arith, both-size)), both-nine, mark-fits v (length (b .reservoirs)) (marksAt bd) hv (e refl) l)
+    word-marked true e l = omega (arith, getD-set-same both marksPlace (marksAt both + 2 ^ v) 0 (omega (arith, both-size)), both-nine, bit-fits v (length (b .reservoirs)) (marksAt bd) hv (e refl) l)
     word-marked false e l = omega (arith, both-nine, l)
 
   pub kept-stored : (k : Kind) (capacity i d : ℕ) → (k ≡ Storage → v < length (b .reservoirs)) → i < length (b .rights) → i < 256 → length bd ≡ boardLength → (k ≡ Storage → 0 < d → bit (marksAt bd) v ≡ false) → Kept b bd (boardStored k capacity v i d bd)

@@ -107,11 +107,11 @@ module _ {b : Basin} {st t rs : List ℕ} {pa : List (List ℕ)} {ri : List ℕ}
   unfolding deepOf sumOver deepBy turn
   deep-next = refl
 
-  shorts-next : shortCount (now ∷ rest) ≡ only (isShort now) 1 + shortCount rest
+  shorts-next : shortCount (now ∷ rest) ≡ only (isShort (now .grant)) 1 + shortCount rest
   unfolding shortCount sumOver
   shorts-next = refl
 
-  short-one : d .shorts ≡ only (isShort now) 1
+  short-one : d .shorts ≡ only (isShort (now .grant)) 1
   unfolding isShort
   short-one = q .short ∙ ap (λ (x : ℕ). cond (eqb x 0) 0 1) (q .turned .tells .reason) ∙ short-same (eqb (reasonNumber ((now .grant) .reason)) 0)
 

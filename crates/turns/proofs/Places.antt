@@ -4,29 +4,20 @@ use mathlib.Core.List.{List, [], _∷_}
 use mathlib.Core.Logic.{_≢_}
 use mathlib.Core.Path.{_≡_, refl, sym, ap, _∙_}
 use Prim.Native.Nat.{ℕ, zero, suc, _+_, _/_, _%_, _^_, _≤_, _<_}
-use native.Mathlib.Nat.{pow-suc, mul-comm, div-div-eq-div-mul}
 use native.Mathlib.Omega.{arith}
 use lib.Dec.{ltb, eqb}
 use lib.ListN.{length, getD, set, length-set}
-use lib.Seq.{getD-set-same, getD-set-other, ext-getD}
+use lib.Seq.{getD-set-same, getD-set-other}
 use Rattle.places.specs.Board.{storagePlace, marksPlace, takenPlace, duesFrom, boardLength, storageAt, marksAt, takenAt}
 use Rattle.general.specs.Tables.{tab}
-use Rattle.general.proofs.Tables.{tab-length, tab-at, tab-same}
-use Rattle.general.proofs.Tests.{absurd-bool, by-eqb}
+use Rattle.general.proofs.Tables.{tab-at, tab-same, tab-set}
 use Rattle.general.specs.Tests.{bit}
 use Rattle.turns.specs.State.{storagesOf, marksOf, takenOf, shortOf}
 use Rattle.grants.specs.Stages.{markedBoard, poured}
-use Rattle.grants.proofs.RightKinds.{shifted, nine}
+use Rattle.general.proofs.Bits.{bit-set, bit-other}
+use Rattle.grants.proofs.RightKinds.{mark-small, nine}
 
 -- ---- a table after one of its places is stored to
-
-tab-set : {A : Type 0} (n : ℕ) (f g : ℕ → A) (i : ℕ) (x d : A) → i < n → g i ≡ x → ((k : ℕ) → k < n → k ≢ i → g k ≡ f k) → tab n g ≡ set (tab n f) i x
-tab-set n f g i x d h e o =
-    ext-getD d (tab n g) (set (tab n f) i x) (tab-length g n ∙ sym (length-set (tab n f) i x ∙ tab-length f n))
-    (λ k l. let m : k < n = rw (tab-length g n) at l in
-    by-eqb k i (λ _. getD (tab n g) k d ≡ getD (set (tab n f) i x) k d)
-    (λ z. rw z (tab-at g n i d h ∙ e ∙ sym (getD-set-same (tab n f) i x d (rw (tab-length f n) h))))
-    (λ z. tab-at g n k d m ∙ o k m z ∙ sym (getD-set-other (tab n f) i k x d z ∙ tab-at f n k d m)))
 
 pub shorts-set : (n : ℕ) (sh : List Bool) (w : ℕ) → w < n → w < length sh → shortOf n (set sh w true) ≡ set (shortOf n sh) w true
 unfolding shortOf
@@ -71,40 +62,7 @@ module _ (n : ℕ) (bd : List ℕ) where
   unfolding storagesOf marksOf takenOf
   places-same bd′ h e = (tab-same n _ _ (λ k l. e (storagePlace k) (omega arith)), ap (λ (w : ℕ). tab n (bit w)) (e 9 (omega arith)), tab-same n _ _ (λ k l. e (takenPlace k) (omega arith)))
 
--- ---- bits of a word
-
-pub bit-zero : (w : ℕ) → bit w 0 ≡ eqb (w % 2) 1
-unfolding bit
-bit-zero w = let e : w / 1 ≡ w = omega arith in rw e
-
-pub bit-suc : (w k : ℕ) → bit w (suc k) ≡ bit (w / 2) k
-unfolding bit
-bit-suc w k = let e : w / 2 ^ suc k ≡ w / 2 / 2 ^ k = rw (pow-suc 2 k, mul-comm (2 ^ k) 2) (sym (div-div-eq-div-mul w 2 (2 ^ k))) in rw e
-
-odd-one : (w : ℕ) → w % 2 ≡ 1 → eqb (w % 2) 1 ≡ true
-odd-one w e = rw e
-
-pub not-odd : (w : ℕ) → bit w 0 ≡ false → w % 2 ≡ 0
-not-odd w h = by-eqb (w % 2) 1 (λ _. w % 2 ≡ 0) (λ e. absurd-bool (odd-one w e) (sym (bit-zero w) ∙ h)) (λ e. omega arith)
-
-bit-set : (v w : ℕ) → bit w v ≡ false → bit (w + 2 ^ v) v ≡ true
-bit-set zero w h = let n = not-odd w h in bit-zero (w + 1) ∙ odd-one (w + 1) (omega arith)
-bit-set (suc v) w h =
-    let e : (w + 2 ^ suc v) / 2 ≡ w / 2 + 2 ^ v = rw (pow-suc 2 v) (omega arith) in
-    bit-suc (w + 2 ^ suc v) v ∙ rw e (bit-set v (w / 2) (sym (bit-suc w v) ∙ h))
-
-bit-other : (v k w : ℕ) → bit w v ≡ false → k ≢ v → bit (w + 2 ^ v) k ≡ bit w k
-bit-other zero zero w h n = absurd (n refl)
-bit-other zero (suc k) w h n =
-    let o = not-odd w h in
-    let e : (w + 1) / 2 ≡ w / 2 = omega arith in
-    bit-suc (w + 1) k ∙ rw e (sym (bit-suc w k))
-bit-other (suc v) zero w h n =
-    let e : (w + 2 ^ suc v) % 2 ≡ w % 2 = rw (pow-suc 2 v) (omega arith) in
-    bit-zero (w + 2 ^ suc v) ∙ rw e (sym (bit-zero w))
-bit-other (suc v) (suc k) w h n =
-    let e : (w + 2 ^ suc v) / 2 ≡ w / 2 + 2 ^ v = rw (pow-suc 2 v) (omega arith) in
-    bit-suc (w + 2 ^ suc v) k ∙ rw e (bit-other v k (w / 2) (sym (bit-suc w v) ∙ h) (λ z. n (ap suc z))) ∙ sym (bit-suc w k)
+-- ---- a mark that was not set
 
 marks-set : (n : ℕ) (bd : List ℕ) (v : ℕ) → v < n → marksPlace < length bd → bit (marksAt bd) v ≡ false → marksOf n (set bd marksPlace (marksAt bd + 2 ^ v)) ≡ set (marksOf n bd) v true
 unfolding marksOf
@@ -196,5 +154,5 @@ poured-grown bd capacity v i d x h k l = go (ltb 0 d && eqb (storageAt bd v + d)
     go : (t : Bool) (j : ℕ) → getD (markedBoard t (set (set bd (storagePlace v) (storageAt bd v + d)) (takenPlace i) (takenAt bd i + d)) v) j 0 ≤ getD bd j 0 + x
     go true =
         let both : List ℕ = set (set bd (storagePlace v) (storageAt bd v + d)) (takenPlace i) (takenAt bd i + d) in
-        grown-set bd both 9 (marksAt both + 2 ^ v) x two (omega (arith, nine v i d bd h, shifted v h .1))
+        grown-set bd both 9 (marksAt both + 2 ^ v) x two (omega (arith, nine v i d bd h, mark-small v h))
     go false = two

@@ -1,54 +1,37 @@
--- `boards::possible::dues_ok` meets its contract. The loop's invariant: all rows passed are possible. Assumes nothing.
+-- `boards::possible::dues_ok` meets its contract. Assumes nothing.
 use mathlib.Core.Bool.{Bool}
-use mathlib.Core.Path.{_≡_, ap, _∙_}
-use Prim.Native.Nat.{ℕ, _-_, _≤_}
-use native.Mathlib.Omega.{arith}
+use mathlib.Core.List.{List}
+use mathlib.Core.Path.{_≡_}
+use Prim.Native.Nat.{ℕ, _-_, _^_, _≤_}
 use borrow.Author.Needs.{needs}
 use denote.Ref.{now}
-use Rattle.general.proofs.Loops.{all-none, all-more}
+use lib.Dec.{ltb}
 use Rattle.general.specs.Tests.{_and_, allTo}
-use Rattle.boards.specs.Bodies.{rowOk, duesOk}
+use Rattle.places.specs.Board.{duesOf}
+use Rattle.boards.specs.Bodies.{rowOk, duesOk, haveBits}
+use Rattle.boards.proofs.Bodies.{dues-parts}
 use Rattle.boards.proofs.possible.dues_ok.Statement.{statement}
 use Rattle.boards.proofs.possible.dues_ok.Tie as tie
 
-abbrev Inv-loop : tie.InvT-loop
-Inv-loop n board all₀ w₀ all w = (w ≤ 64) × (all ≡ allTo w (rowOk n board))
+-- the rows that there are, and what stands past them
+ruled : (n : ℕ) (board : List ℕ) (p x : ℕ) {a b : Bool} → n ≤ 64 → p ≡ duesOf n → a ≡ allTo n (rowOk board) → ((k : ℕ) → ltb x (2 ^ k) ≡ haveBits k board p (970 - p)) → b ≡ (a and ltb x 1) → b ≡ duesOk n board
+ruled n board p x h ep ea ex eb = cc (dues-parts n board h, ex 0)
 
-abbrev μ-loop : tie.MeasureT-loop
-μ-loop n board all₀ w₀ all w = 64 - w
+dues-of-requires : tie.Need-dues-of-requires
+dues-of-requires c κs = search needs
 
-loop-holds : tie.Need-loop-holds Inv-loop μ-loop
-loop-holds c = (search needs, all-none _)
+joined-requires : tie.Need-joined-requires
+joined-requires c κs = search needs
 
-row-ok-requires : tie.Need-row-ok-requires Inv-loop μ-loop
-row-ok-requires c κs = search needs
+rows-ok-requires : tie.Need-rows-ok-requires
+rows-ok-requires c κs = search needs
 
-both-requires : tie.Need-both-requires Inv-loop μ-loop
+both-requires : tie.Need-both-requires
 both-requires c κs = search needs
 
-add-w : tie.Need-add-w Inv-loop μ-loop
-add-w c = search needs
-
-loop-less : tie.Need-loop-less Inv-loop μ-loop
-loop-less c = search needs
-
-loop-again : tie.Need-loop-again Inv-loop μ-loop
-loop-again c = (omega arith, all-more (rowOk (c .before .before .before .before .before .args .n) (now (c .before .before .before .before .before .args .board))) (c .before .before .before .loop .w) _ _ (c .before .before .before .loop .inv .1) (c .both .ensures ∙ ap (λ (x : Bool). c .before .before .before .loop .all and x) (c .before .row-ok .ensures)))
-
-returns : tie.Need-returns Inv-loop μ-loop
-unfolding duesOk
-returns c = c .before .loop .inv .1 ∙ ap (λ (k : ℕ). allTo k (rowOk (c .before .before .before .args .n) (now (c .before .before .before .args .board)))) (omega arith)
+returns : tie.Need-returns
+returns c = ruled (c .before .before .before .before .before .args .n) (now (c .before .before .before .before .before .args .board)) (c .before .before .before .dues-of .result) (c .before .before .joined .result) (c .before .before .before .before .before .pre .1) (c .before .before .before .dues-of .ensures) (c .before .rows-ok .ensures) (c .before .before .joined .ensures) (c .both .ensures)
 
 pub dues-ok-spec : {M : Type 1} → statement M
 dues-ok-spec =
-    tie.close
-    (tie.spec
-    Inv-loop
-    μ-loop
-    loop-holds
-    row-ok-requires
-    both-requires
-    add-w
-    loop-less
-    loop-again
-    returns)
+    tie.close (tie.spec dues-of-requires joined-requires rows-ok-requires both-requires returns)

@@ -3,7 +3,7 @@ use Rattle.places.specs.Board.{marksPlace}
 use Rattle.places.proofs.BoardPlaces.{place-read}
 use Rattle.records.specs.declared.reservoirs.ReservoirRecord.{ReservoirRecord}
 use Rattle.grants.specs.Stages.{capacityIn}
-use Rattle.grants.proofs.RightKinds.{nine-at, poured-none, poured-part, poured-at}
+use Rattle.grants.proofs.RightKinds.{mark-small, nine-at, poured-none, poured-part, poured-at}
 use Prim.Native.Nat.{_^_, ℕ, _+_}
 use mathlib.Core.Path.{sym, ap, _∙_}
 use native.Mathlib.Omega.{arith}
@@ -87,7 +87,7 @@ power-requires : tie.Need-power-requires
 power-requires c κs = search needs
 
 add-board : tie.Need-add-board
-add-board c = omega (arith, nine-at (c .before .before .before .before .before .before .before .before .before .before .before .before .before .args .v) (c .before .before .before .before .before .before .before .before .before .before .before .before .before .args .i) (now (c .before .before .before .before .before .before .before .before .before .before .before .before .before .args .board)) (getD (now (c .before .before .before .before .before .before .before .before .before .before .before .before .before .args .board)) (c .before .before .before .before .before .before .before .before .before .storage-place .result) 0 + c .before .before .before .before .before .before .before .before .before .before .before .before .before .args .d) (getD (now (c .before .before .before .before .before .before .before .before .before .before .before .before .before .args .board)) (c .before .before .before .before .before .before .before .before .taken-place .result) 0 + c .before .before .before .before .before .before .before .before .before .before .before .before .before .args .d) (c .before .before .before .before .before .before .before .before .before .storage-place .ensures) (c .before .before .before .before .before .before .before .before .taken-place .ensures) (c .before .before .before .before .before .before .before .before .before .before .before .before .before .pre .eight), c .before .before .before .before .before .before .before .before .before .before .before .before .before .pre .board .room .room marksPlace, c .power .ensures .1)
+add-board c = omega (arith, nine-at (c .before .before .before .before .before .before .before .before .before .before .before .before .before .args .v) (c .before .before .before .before .before .before .before .before .before .before .before .before .before .args .i) (now (c .before .before .before .before .before .before .before .before .before .before .before .before .before .args .board)) (getD (now (c .before .before .before .before .before .before .before .before .before .before .before .before .before .args .board)) (c .before .before .before .before .before .before .before .before .before .storage-place .result) 0 + c .before .before .before .before .before .before .before .before .before .before .before .before .before .args .d) (getD (now (c .before .before .before .before .before .before .before .before .before .before .before .before .before .args .board)) (c .before .before .before .before .before .before .before .before .taken-place .result) 0 + c .before .before .before .before .before .before .before .before .before .before .before .before .before .args .d) (c .before .before .before .before .before .before .before .before .before .storage-place .ensures) (c .before .before .before .before .before .before .before .before .taken-place .ensures) (c .before .before .before .before .before .before .before .before .before .before .before .before .before .pre .eight), c .before .before .before .before .before .before .before .before .before .before .before .before .before .pre .board .room .room marksPlace, c .power .ensures, ap (λ (x : ℕ). 2 ^ x) (c .before .wide-size .ensures), mark-small (c .before .before .before .before .before .before .before .before .before .before .before .before .before .args .v) (c .before .before .before .before .before .before .before .before .before .before .before .before .before .pre .eight))
 
 slice-write-board-3 : tie.Need-slice-write-board-3
 slice-write-board-3 c = omega (arith, c .before .before .before .before .before .before .before .before .before .before .before .before .before .pre .board .size, length-set (now (c .before .before .before .before .before .before .before .before .before .before .before .before .before .args .board)) (c .before .before .before .before .before .before .before .before .before .storage-place .result) (getD (now (c .before .before .before .before .before .before .before .before .before .before .before .before .before .args .board)) (c .before .before .before .before .before .before .before .before .before .storage-place .result) 0 + c .before .before .before .before .before .before .before .before .before .before .before .before .before .args .d), length-set (set (now (c .before .before .before .before .before .before .before .before .before .before .before .before .before .args .board)) (c .before .before .before .before .before .before .before .before .before .storage-place .result) (getD (now (c .before .before .before .before .before .before .before .before .before .before .before .before .before .args .board)) (c .before .before .before .before .before .before .before .before .before .storage-place .result) 0 + c .before .before .before .before .before .before .before .before .before .before .before .before .before .args .d)) (c .before .before .before .before .before .before .before .before .taken-place .result) (getD (now (c .before .before .before .before .before .before .before .before .before .before .before .before .before .args .board)) (c .before .before .before .before .before .before .before .before .taken-place .result) 0 + c .before .before .before .before .before .before .before .before .before .before .before .before .before .args .d))
@@ -102,7 +102,7 @@ returns-3 c =
     let e = c .before .before .before .before .wide32 .ensures .0 ∙ ap (λ (x : ReservoirRecord). x .capacity) (c .before .before .before .before .before .before .before .before .before .before .reservoir-at .ensures) in
     let h = ap (λ (x : ℕ). x + b .args .d) (place-read l (c .before .before .before .before .before .before .before .before .before .storage-place .ensures)) in
     poured-at (capacityIn (now (b .args .reservoirs)) (b .args .v)) (b .args .v) (b .args .i) (b .args .d) l (c .power .result) (c .before .before .before .before .before .before .before .before .before .storage-place .ensures) (c .before .before .before .before .before .before .before .before .taken-place .ensures)
-    (c .before .before .before .before .before .if1 .left) (c .before .before .before .if2 .left ∙ e) (c .power .ensures .0 ∙ ap (λ (x : ℕ). 2 ^ x) (c .before .wide-size .ensures))
+    (c .before .before .before .before .before .if1 .left) (c .before .before .before .if2 .left ∙ e) (c .power .ensures ∙ ap (λ (x : ℕ). 2 ^ x) (c .before .wide-size .ensures))
 
 pub pour-spec : {M : Type 1} → statement M
 pour-spec =
