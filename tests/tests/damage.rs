@@ -188,7 +188,7 @@ fn each_extreme_board_is_possible() {
             let mut board = river.possible_board(rng);
             edit(&river.basin, &mut board);
             let storages: u64 = board[1..9].iter().sum();
-            let dues: u64 = board[266..].iter().sum();
+            let dues: u64 = board[266..970].iter().sum();
             assert_eq!(stock(&river.file, &board), [0, 0, storages, dues], "{name}");
             let mut report = vec![0; river.basin.report_length()];
             let m = board[NEXT_MONTH];
@@ -240,7 +240,7 @@ fn wrong_lengths_are_refused() {
             assert_eq!(board, before);
             assert!(report.iter().all(|&number| number == 6));
         }
-        for boards in [0, 969, 971] {
+        for boards in [0, 969, 970, 971, 1225, 1227] {
             let mut board = vec![8; boards];
             assert_eq!(fresh(&river.file, &mut board), (6, 0));
             assert_eq!(stock(&river.file, &board), [6, 0, 0, 0]);
