@@ -140,7 +140,7 @@ slips! {
     ShortBitReversed: "month m has bit 11 - m",
     ShortOutOfSeason: "a right out of season is kept as short",
     ShortByNoGrant: "a right is kept as short where it is granted nothing",
-    ShortByRiverLowOnly: "a short project right is not kept as short",
+    ShortProjectNotKept: "a short project right is not kept as short",
     // Returns.
     SharesFlooredAlone: "each share is floored alone",
     SharesRoundedUp: "running shares are rounded up, not down",

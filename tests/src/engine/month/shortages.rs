@@ -37,7 +37,7 @@ impl<T: Telling> Month<'_, T> {
         if self.slips(Slip::ShortByNoGrant) {
             return grant.total() == 0 && amount > 0;
         }
-        short && !(self.slips(Slip::ShortByRiverLowOnly) && right.kind == PROJECT)
+        short && !(self.slips(Slip::ShortProjectNotKept) && right.kind == PROJECT)
     }
 
     fn word_of(&self, place: usize) -> usize {
