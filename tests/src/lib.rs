@@ -10,8 +10,11 @@
 //! * [`cases`], [`runs`], [`years`]: what programs `rivercheck`, `riverrun` and `riveryear`
 //!   are run on, with what they print.
 //! * [`seeds`]: where the long comparisons begin.
-//! * `ffi` (feature `native`): the static library's C functions; [`lent`]: lists for them.
+//! * `ffi` (feature `native`): the static library's C functions; [`lent`]: lists for them;
+//!   `asked` (likewise): short months by both engines.
 
+#[cfg(feature = "native")]
+pub mod asked;
 pub mod calls;
 pub mod cases;
 pub mod damage;
