@@ -48,15 +48,13 @@ pub fn possible<T: Telling>(telling: &T, basin: &Judged, board: &[u64]) -> bool 
         || (all_zero(&board[STORAGES + reservoirs..MARKS])
             && all_zero(&board[TAKEN + rights..DUES])
             && all_zero(&board[DUES + LAGS * rows..SHORT]));
-    let (words, words_of_none) = board[SHORT..].split_at(rights);
     month_fits
         && marks_fit
         && empty_fits
-        && (all_zero(words_of_none) || telling.slips(Slip::BoardShortOfNoRight))
         && storages_fit(telling, basin, board)
         && taken_fits(telling, basin, board)
         && (0..rows).all(|row| dues_fit(telling, &board[due(row, 1)..]))
-        && words_fit(telling, words, board[NEXT_MONTH])
+        && words_fit(telling, board, rights)
 }
 
 fn all_zero(places: &[u64]) -> bool {
@@ -91,10 +89,13 @@ fn dues_fit<T: Telling>(telling: &T, dues: &[u64]) -> bool {
     })
 }
 
-/// Nothing stands above the bit of September (02, No. 6). Any months may be told, those
-/// that are still to be run among them.
-fn words_fit<T: Telling>(telling: &T, words: &[u64], m: u64) -> bool {
-    let mut all = words.iter().fold(0, |bits, word| bits | word);
+/// Of the words that are there nothing stands above the bit of September, and of the others
+/// nothing at all (02, No. 6). Any months may be told, those that are still to be run among
+/// them. All are gone through, without a branch at each.
+fn words_fit<T: Telling>(telling: &T, board: &[u64], rights: usize) -> bool {
+    let union = |words: &[u64]| words.iter().fold(0, |bits, word| bits | word);
+    let (words, others) = board[SHORT..].split_at(rights);
+    let mut all = union(words);
     if telling.slips(Slip::BoardShortLowHalfOnly) {
         all &= u32::MAX as u64;
     }
@@ -102,12 +103,13 @@ fn words_fit<T: Telling>(telling: &T, words: &[u64], m: u64) -> bool {
         13
     } else if telling.slips(Slip::BoardShortWithoutSeptember) {
         11
-    } else if telling.slips(Slip::BoardShortRunMonthsOnly) && m > 0 {
-        m
+    } else if telling.slips(Slip::BoardShortRunMonthsOnly) && board[NEXT_MONTH] > 0 {
+        board[NEXT_MONTH]
     } else {
         MONTHS as u64
     };
-    all >> bits == 0 || telling.slips(Slip::BoardShortAny)
+    (all >> bits == 0 || telling.slips(Slip::BoardShortAny))
+        && (union(others) == 0 || telling.slips(Slip::BoardShortOfNoRight))
 }
 
 /// The board on which a basin begins: the reservoirs hold what the file says, nothing is

@@ -13,6 +13,22 @@ use river_tests::engine::records::MOST_RUNOFF;
 use river_tests::engine::tally::Tally;
 use river_tests::generate::{any_river, river_of, River, Rng, Size};
 
+/// Makes a third of the calls one to be refused.
+fn spoil(rng: &mut Rng, runoff: &mut Vec<u32>, report: &mut Vec<u64>, length: usize) {
+    match rng.below(12) {
+        0 => report.truncate(length.saturating_sub(1)),
+        1 => runoff.push(0),
+        2 => {
+            let row = rng.below(runoff.len());
+            runoff[row] = MOST_RUNOFF + 1;
+        }
+        3 => {
+            runoff.pop();
+        }
+        _ => (),
+    }
+}
+
 /// Runs a list of calls, some of them refused, through engine and tally.
 fn compare_list(
     rng: &mut Rng,
@@ -23,20 +39,8 @@ fn compare_list(
 ) {
     let length = river.basin.report_length();
     for _ in 0..calls {
-        let mut runoff = river.runoff(rng);
-        let mut report = vec![77; length + rng.below(3)];
-        match rng.below(12) {
-            0 => report.truncate(length.saturating_sub(1)),
-            1 => runoff.push(0),
-            2 => {
-                let row = rng.below(runoff.len());
-                runoff[row] = MOST_RUNOFF + 1;
-            }
-            3 => {
-                runoff.pop();
-            }
-            _ => (),
-        }
+        let (mut runoff, mut report) = (river.runoff(rng), vec![77; length + rng.below(3)]);
+        spoil(rng, &mut runoff, &mut report, length);
         let board_before = at.board.clone();
         let report_before = report.clone();
         let answer = month(&river.file, &runoff, &mut at.board, &mut report);
