@@ -138,29 +138,31 @@ pub fn fresh<T: Telling>(telling: &T, file: &[u8], board: &mut [u64]) -> Answer 
     (0, 0)
 }
 
-/// What is turned down where a file and a board of its basin are lent: refusals 1 to 7.
-pub fn judge_with_board<'a, T: Telling>(
+/// What is turned down of a board alone, by a call that is lent no other list: refusals 6 and 7.
+pub fn judge_whole_board<T: Telling>(
     telling: &T,
-    file: &'a [u8],
+    basin: &Judged,
     board: &[u64],
-    network: &'a mut Network,
-) -> Result<Judged<'a>, Refusal> {
-    let basin = judge(telling, file, network)?;
+) -> Result<(), Refusal> {
     if board.len() != BOARD {
         return Err(WRONG_LENGTH);
     }
-    if !possible(telling, &basin, board) {
+    if !possible(telling, basin, board) {
         return Err(NOT_POSSIBLE);
     }
-    Ok(basin)
+    Ok(())
 }
 
 /// Number and place, then what the reservoirs hold and what is due, both summed; a
 /// refused call sums nothing (01, Stock, and the C caller).
 pub fn stock<T: Telling>(telling: &T, file: &[u8], board: &[u64]) -> [u64; 4] {
     let mut network = Network::room();
+    let basin = match judge(telling, file, &mut network) {
+        Ok(basin) => basin,
+        Err(refusal) => return [refusal.number, refusal.place, 0, 0],
+    };
     let storages = || board[STORAGES..MARKS].iter().fold(0, |sum: u64, &s| sum.wrapping_add(s));
-    if let Err(refusal) = judge_with_board(telling, file, board, &mut network) {
+    if let Err(refusal) = judge_whole_board(telling, &basin, board) {
         let tells = telling.slips(Slip::RefusedStockTold) && refusal == NOT_POSSIBLE;
         return [refusal.number, refusal.place, if tells { storages() } else { 0 }, 0];
     }

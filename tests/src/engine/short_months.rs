@@ -1,7 +1,7 @@
 //! The short months of a right, read off a board (02, No. 6).
 
 use super::board::*;
-use super::check::Refusal;
+use super::check::{judge, Refusal};
 use super::network::Network;
 use super::slip::{Slip, Telling};
 
@@ -9,22 +9,31 @@ use super::slip::{Slip, Telling};
 /// call tells no month, and of a right that the basin lacks there is none to tell.
 pub fn short_months<T: Telling>(telling: &T, file: &[u8], board: &[u64], right: usize) -> [u64; 3] {
     let mut network = Network::room();
-    let basin = match judge_with_board(telling, file, lent(telling, board), &mut network) {
+    let basin = match judge(telling, file, &mut network) {
         Ok(basin) => basin,
-        Err(refusal) => return refused(telling, refusal, file, board, right),
+        Err(refusal) => return [refusal.number, refusal.place, 0],
     };
     let rights = basin.sections.rights.len();
     let right = place(telling, right);
+    if right >= rights && telling.slips(Slip::MissingRightBeforeBoard) {
+        return [0, 0, 0];
+    }
+    if let Err(refusal) = judge_whole_board(telling, &basin, lent(telling, board)) {
+        return refused(telling, refusal, board, right, rights);
+    }
     if right >= rights {
         return missing(telling, board, right);
     }
     [0, 0, months(telling, &board[..SHORT + rights], right)]
 }
 
+fn ones(word: u64) -> u64 {
+    word.count_ones() as u64
+}
+
 /// The months that are set in a right's word.
 fn months<T: Telling>(telling: &T, board: &[u64], right: usize) -> u64 {
     let word = board[SHORT + right];
-    let ones = |word: u64| word.count_ones() as u64;
     if telling.slips(Slip::ShortMonthsFromNovember) {
         return ones(word >> 1);
     }
@@ -46,8 +55,34 @@ fn months<T: Telling>(telling: &T, board: &[u64], right: usize) -> u64 {
     ones(word)
 }
 
-// ---- only for slips: the rules look at the whole number of a right, at the whole board and
-// at the refusals first ----
+fn missing<T: Telling>(telling: &T, board: &[u64], right: usize) -> [u64; 3] {
+    if telling.slips(Slip::MissingRightRefused) {
+        return [5, right as u64, 0];
+    }
+    [0, 0, if telling.slips(Slip::MissingRightAsFirst) { ones(board[SHORT]) } else { 0 }]
+}
+
+fn refused<T: Telling>(
+    telling: &T,
+    refusal: Refusal,
+    board: &[u64],
+    right: usize,
+    rights: usize,
+) -> [u64; 3] {
+    // Only slips look at the word of a board that is turned down.
+    if refusal == NOT_POSSIBLE && right < rights {
+        let months = ones(board[SHORT + right]);
+        if telling.slips(Slip::ShortMonthsOfAnyBoard) {
+            return [0, 0, months];
+        }
+        if telling.slips(Slip::RefusedShortMonthsTold) {
+            return [refusal.number, refusal.place, months];
+        }
+    }
+    [refusal.number, refusal.place, 0]
+}
+
+// ---- only for slips: a right's place and a board count as a whole ----
 
 fn place<T: Telling>(telling: &T, right: usize) -> usize {
     if telling.slips(Slip::RightsLowByteOnly) {
@@ -66,32 +101,4 @@ fn lent<'a, T: Telling>(telling: &T, board: &'a [u64]) -> &'a [u64] {
     } else {
         board
     }
-}
-
-fn missing<T: Telling>(telling: &T, board: &[u64], right: usize) -> [u64; 3] {
-    if telling.slips(Slip::MissingRightRefused) {
-        return [5, right as u64, 0];
-    }
-    let first = telling.slips(Slip::MissingRightAsFirst);
-    [0, 0, if first { board[SHORT].count_ones() as u64 } else { 0 }]
-}
-
-fn refused<T: Telling>(
-    telling: &T,
-    refusal: Refusal,
-    file: &[u8],
-    board: &[u64],
-    right: usize,
-) -> [u64; 3] {
-    let on_board = refusal == NOT_POSSIBLE;
-    let there = right < file.get(28..30).map_or(0, |two| two[0] as usize + 256 * two[1] as usize);
-    let months = || board[SHORT + right].count_ones() as u64;
-    if on_board && there && telling.slips(Slip::ShortMonthsOfAnyBoard) {
-        return [0, 0, months()];
-    }
-    if !there && refusal.number > 5 && telling.slips(Slip::MissingRightBeforeBoard) {
-        return [0, 0, 0];
-    }
-    let tells = on_board && there && telling.slips(Slip::RefusedShortMonthsTold);
-    [refusal.number, refusal.place, if tells { months() } else { 0 }]
 }
