@@ -5,7 +5,7 @@ use std::error::Error;
 use std::{env, fs};
 
 mod river {
-    pub const BOARD_LENGTH: usize = 970;
+    pub const BOARD_LENGTH: usize = 1226;
     /// Enough for any basin.
     pub const REPORT_LONGEST: usize = 4 * 256 + 2 * 64 + 8 + 1;
 

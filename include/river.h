@@ -31,6 +31,12 @@ struct river_sums {
     uint64_t due;
 };
 
+struct river_months {
+    uint64_t number;
+    uint64_t place;
+    uint64_t months; /* 0 where the call is refused */
+};
+
 /* The numbers, and the place that goes with each. Of several that apply the lowest is answered, but for 9 and 10, which
    come after 5 and before 6. A refused call writes nothing. */
 enum river_refusal {
@@ -63,7 +69,7 @@ enum river_refusal {
 
 /* ---- The places of a board, which is all that one month hands to the next ---- */
 
-#define RIVER_BOARD_LENGTH 970
+#define RIVER_BOARD_LENGTH 1226
 #define RIVER_BOARD_MONTH 0                                      /* the month to be run next */
 #define RIVER_BOARD_STORAGE(reservoir) (1 + (size_t)(reservoir)) /* 1 to 8: what it holds */
 #define RIVER_BOARD_MARKS 9                                      /* bit v: reservoir v was filled since October */
@@ -71,6 +77,9 @@ enum river_refusal {
 /* 266 to 969, eleven for each row: what returns there in the month to be run next, k = 1, and in the ten after it, k = 2
    to 11. */
 #define RIVER_BOARD_DUE(row, k) (266 + 11 * (size_t)(row) + ((size_t)(k) - 1))
+/* 970 to 1225: bit m tells whether the right was short in month m of the water year. A month writes its own bit alone,
+   but for October, which clears the others too. */
+#define RIVER_BOARD_SHORT(right) (970 + (size_t)(right))
 
 /* ---- The places of a report; `rights` and `stations` are how many there are ---- */
 
@@ -133,7 +142,8 @@ uint32_t river_check(const uint8_t *file, size_t length);
            printf("right %d is at fault\n", (int)answer.place); */
 struct river_answer river_verdict(const uint8_t *file, size_t length);
 
-/* Writes the board on which a basin begins: the storages of the file, nothing taken, nothing due. Refusals 1 to 6.
+/* Writes the board on which a basin begins: the storages of the file, nothing taken, nothing due, no right short.
+   Refusals 1 to 6.
 
        uint64_t board[RIVER_BOARD_LENGTH];
        struct river_answer answer = river_fresh(file, length, board, RIVER_BOARD_LENGTH); */
@@ -156,6 +166,16 @@ struct river_answer river_month(const uint8_t *file, size_t length, const uint32
        if (sums.number == RIVER_ACCEPTED)
            printf("%llu stored\n", (unsigned long long)sums.storage); */
 struct river_sums river_stock(const uint8_t *file, size_t length, const uint64_t *board, size_t board_length);
+
+/* Counts the months of the water year in which a right was short, as a board has kept them: after September those of
+   the whole year, until October is run. Refusals 1 to 7; a right that the basin does not have is no refusal and has 0
+   months.
+
+       struct river_months told = river_short_months(file, length, board, RIVER_BOARD_LENGTH, 4);
+       if (told.number == RIVER_ACCEPTED)
+           printf("right 4 was short in %d months\n", (int)told.months); */
+struct river_months river_short_months(const uint8_t *file, size_t length, const uint64_t *board, size_t board_length,
+                                       size_t right);
 
 /* Looks a year up in a runoff book of the basin. Refusals 1 to 5, 9 and 10; no runoff number is looked at.
 

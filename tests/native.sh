@@ -31,7 +31,8 @@ count() {
     grep -oE "[0-9]+ $1" "$said" | awk '{ sum += $1 } END { print sum }'
 }
 total="$(count files:) files, $(count boards:) boards, $(count calls,) month calls, $(count refused:) of them refused, \
-$(count 'year runs,') year runs, $(count 'turned down:') of them refused, $(count look-ups:) look-ups"
+$(count 'year runs,') year runs, $(count 'turned down:') of them refused, $(count look-ups:) look-ups, \
+$(count 'rights asked:') rights asked for short months"
 echo "the library answers as the plain engine: $total"
 if [ -z "${RIVER_CALLS:-}${RIVER_YEARS:-}${RIVER_SEED:-}" ] && ! grep -qF "$total" tests/README.md; then
     echo "tests/README.md tells other counts" >&2

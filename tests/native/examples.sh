@@ -31,7 +31,7 @@ run() { # STORED NAME WORDS...
 
 gcc -std=c11 "${strict[@]}" -fsyntax-only tests/native/places.c
 ! has g++ || g++ "${strict[@]}" -x c++ -fsyntax-only tests/native/places.c
-for name in check verdict fresh month stock year; do
+for name in check verdict fresh month stock short_months year; do
     build examples "$name"
 done
 build tests/native refused
@@ -43,6 +43,7 @@ run examples/fresh.expected fresh "$october"
 run examples/month.expected month "$october" samples/october.months.bin
 run examples/stock.expected stock "$october"
 run examples/year.expected year samples/provo.basin.bin samples/provo.book.bin 1964
+run examples/short_months.expected short_months samples/provo.basin.bin samples/provo.book.bin 1964
 run tests/native/refused.expected refused "$october"
 
 # The files of rivercheck have its answers. Two cannot be read, which is all that stands on standard error.

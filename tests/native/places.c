@@ -9,7 +9,10 @@ static_assert(RIVER_BOARD_MARKS == RIVER_BOARD_STORAGE(RIVER_MOST_RESERVOIRS), "
 static_assert(RIVER_BOARD_TAKEN(0) == RIVER_BOARD_MARKS + 1, "then what was taken");
 static_assert(RIVER_BOARD_DUE(0, 1) == RIVER_BOARD_TAKEN(RIVER_MOST_RIGHTS), "then the dues");
 static_assert(RIVER_BOARD_DUE(1, 1) == RIVER_BOARD_DUE(0, 11) + 1, "row after row");
-static_assert(RIVER_BOARD_LENGTH == RIVER_BOARD_DUE(RIVER_MOST_STATIONS, 1), "to the end");
+static_assert(RIVER_BOARD_SHORT(0) == RIVER_BOARD_DUE(RIVER_MOST_STATIONS, 1), "then the short months");
+static_assert(RIVER_BOARD_SHORT(1) == RIVER_BOARD_SHORT(0) + 1, "right after right");
+static_assert(RIVER_BOARD_LENGTH == RIVER_BOARD_SHORT(RIVER_MOST_RIGHTS), "to the end");
+static_assert(RIVER_BOARD_LENGTH == 1226, "of 64 stations, 8 reservoirs and 256 rights");
 
 static_assert(RIVER_REPORT_FROM_RIVER(0) == 0, "a report begins with the first right");
 static_assert(RIVER_REPORT_FROM_STORAGE(0) == RIVER_REPORT_FROM_RIVER(0) + 1, "its part from storage");
@@ -39,3 +42,4 @@ static_assert(RIVER_BOOK_LONGEST == 4 * (1 + 2 * 20 + 20 * 12 * 64), "twenty yea
 
 static_assert(sizeof(struct river_answer) == 16, "two numbers");
 static_assert(sizeof(struct river_sums) == 32, "four numbers");
+static_assert(sizeof(struct river_months) == 24, "three numbers");

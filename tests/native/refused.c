@@ -50,6 +50,21 @@ static void print_stock(const char *what, const uint64_t *board, size_t board_le
            sums.storage, sums.due);
 }
 
+static void print_months(const char *what, const uint64_t *board, size_t board_length, size_t right)
+{
+    struct river_months told = river_short_months(file, length, board, board_length, right);
+    printf("%s, short months of right %zu: %" PRIu64 " %" PRIu64 " %" PRIu64 "\n", what, right, told.number, told.place,
+           told.months);
+}
+
+/* Of every right, and of two that are not there. */
+static void print_rights(const char *what, const uint64_t *board)
+{
+    for (size_t right = 0; right <= RIGHTS; right++)
+        print_months(what, board, RIVER_BOARD_LENGTH, right);
+    print_months(what, board, RIVER_BOARD_LENGTH, SIZE_MAX);
+}
+
 /* A month that is to be refused, on lists that are to stay as they are. */
 static void refused(const char *what, size_t runoffs, uint32_t others, const uint64_t *board, size_t board_length,
                     size_t report_length)
@@ -166,10 +181,31 @@ static void years(uint64_t *board)
     print_answer("the rest of 1964", river_run_year(file, length, book, BOOK_LENGTH, 1964, board, RIVER_BOARD_LENGTH,
                                                     reports, REPORTS_LENGTH));
     printf("next month %" PRIu64 "\n", board[RIVER_BOARD_MONTH]);
+    print_rights("the year", board);
     for (size_t place = 11 * REPORT_LENGTH; place < REPORTS_LENGTH; place++)
         if (reports[place] != 99)
             printf("    the list is changed at %zu\n", place);
     free(reports);
+}
+
+/* Boards with a number that is not possible, in the month and in the words of short months; no right is looked at. */
+static void impossible(uint64_t *board)
+{
+    board[RIVER_BOARD_MONTH] = 12;
+    refused("board in month 12", STATIONS, 0, board, RIVER_BOARD_LENGTH, REPORT_LENGTH);
+    refused("the same, runoff over its limit", STATIONS, UINT32_MAX, board, RIVER_BOARD_LENGTH, REPORT_LENGTH);
+    print_stock("stock", board, RIVER_BOARD_LENGTH);
+    print_months("month 12", board, RIVER_BOARD_LENGTH, 0);
+    print_months("month 12", board, RIVER_BOARD_LENGTH, SIZE_MAX);
+    board[RIVER_BOARD_MONTH] = 0;
+    board[RIVER_BOARD_SHORT(RIGHTS)] = 1;
+    refused("a word of right 5", STATIONS, 0, board, RIVER_BOARD_LENGTH, REPORT_LENGTH);
+    print_months("a word of right 5", board, RIVER_BOARD_LENGTH, RIGHTS);
+    board[RIVER_BOARD_SHORT(RIGHTS)] = 0;
+    board[RIVER_BOARD_SHORT(0)] |= 1 << 12;
+    refused("a bit above September's", STATIONS, 0, board, RIVER_BOARD_LENGTH, REPORT_LENGTH);
+    print_months("a bit above September's", board, RIVER_BOARD_LENGTH, 0);
+    print_stock("stock", board, RIVER_BOARD_LENGTH);
 }
 
 int main(int count, char **names)
@@ -189,12 +225,16 @@ int main(int count, char **names)
     print_answer("month of no list but the file", river_month(file, length, NULL, 0, NULL, 0, NULL, 0));
     print_stock("stock of no board", NULL, 0);
     print_stock("stock of a board of 99", board, RIVER_BOARD_LENGTH);
+    print_months("no board", NULL, 0, 0);
+    print_months("a short board", shorter, RIVER_BOARD_LENGTH - 1, 0);
+    print_months("a board of 99", board, RIVER_BOARD_LENGTH, 0);
     for (size_t place = 0; place < RIVER_BOARD_LENGTH; place++)
         if (board[place] != 99 || (place + 1 < RIVER_BOARD_LENGTH && shorter[place] != 99))
             printf("    a board is changed at %zu\n", place);
 
     patterns(runoff, board);
     october("October", runoff, board);
+    print_rights("October", board);
 
     refused("runoff too short", STATIONS - 1, 0, board, RIVER_BOARD_LENGTH, REPORT_LENGTH);
     refused("runoff too long", STATIONS + 1, 0, board, RIVER_BOARD_LENGTH, REPORT_LENGTH);
@@ -204,11 +244,7 @@ int main(int count, char **names)
     refused("runoff over its limit", STATIONS, RIVER_MOST_RUNOFF + 1, board, RIVER_BOARD_LENGTH, REPORT_LENGTH);
     book = write_book();
     years(board);
-
-    board[RIVER_BOARD_MONTH] = 12;
-    refused("board in month 12", STATIONS, 0, board, RIVER_BOARD_LENGTH, REPORT_LENGTH);
-    refused("the same, runoff over its limit", STATIONS, UINT32_MAX, board, RIVER_BOARD_LENGTH, REPORT_LENGTH);
-    print_stock("stock", board, RIVER_BOARD_LENGTH);
+    impossible(board);
 
     free(file);
     free(book);

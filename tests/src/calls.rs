@@ -13,6 +13,7 @@ pub struct Calls {
     pub fresh: fn(&[u8], &mut [u64]) -> Answer,
     pub month: fn(&[u8], &[u32], &mut [u64], &mut [u64]) -> Answer,
     pub stock: fn(&[u8], &[u64]) -> [u64; 4],
+    pub short_months: fn(&[u8], &[u64], usize) -> [u64; 3],
     pub find_year: fn(&[u8], &[u8], u32) -> Answer,
     pub run_year: fn(&[u8], &[u8], u32, &mut [u64], &mut [u64]) -> Answer,
 }
@@ -24,6 +25,7 @@ pub const ENGINES: &[Calls] = &[
         fresh: engine::fresh,
         month: engine::month,
         stock: engine::stock,
+        short_months: engine::short_months,
         find_year: engine::find_year,
         run_year: engine::run_year,
     },
@@ -34,6 +36,7 @@ pub const ENGINES: &[Calls] = &[
         fresh: ffi::fresh,
         month: ffi::month,
         stock: ffi::stock,
+        short_months: ffi::short_months,
         find_year: ffi::find_year,
         run_year: ffi::run_year,
     },

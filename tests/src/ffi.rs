@@ -17,6 +17,13 @@ mod c {
         pub due: u64,
     }
 
+    #[repr(C)]
+    pub struct Months {
+        pub number: u64,
+        pub place: u64,
+        pub months: u64,
+    }
+
     extern "C" {
         pub fn river_check(file: *const u8, len: usize) -> u32;
         pub fn river_verdict(file: *const u8, len: usize) -> Answer;
@@ -42,6 +49,13 @@ mod c {
             board: *const u64,
             board_len: usize,
         ) -> Sums;
+        pub fn river_short_months(
+            file: *const u8,
+            len: usize,
+            board: *const u64,
+            board_len: usize,
+            right: usize,
+        ) -> Months;
         pub fn river_find_year(
             file: *const u8,
             len: usize,
@@ -107,6 +121,14 @@ pub fn month(file: &[u8], runoff: &[u32], board: &mut [u64], report: &mut [u64])
 pub fn stock(file: &[u8], board: &[u64]) -> [u64; 4] {
     let sums = unsafe { c::river_stock(file.as_ptr(), file.len(), board.as_ptr(), board.len()) };
     [sums.number, sums.place, sums.storage, sums.due]
+}
+
+/// Number, place, and in how many months of the board's water year a right was short.
+pub fn short_months(file: &[u8], board: &[u64], right: usize) -> [u64; 3] {
+    let told = unsafe {
+        c::river_short_months(file.as_ptr(), file.len(), board.as_ptr(), board.len(), right)
+    };
+    [told.number, told.place, told.months]
 }
 
 /// Number and place of the look-up of a year in a book.

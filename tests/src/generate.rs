@@ -1,6 +1,6 @@
 //! A seeded generator of valid basins, runoff sheets, runoff books and possible boards.
 
-use crate::engine::board::{due, most_due, BOARD, MARKS, NEXT_MONTH, STORAGES, TAKEN};
+use crate::engine::board::{due, most_due, BOARD, MARKS, NEXT_MONTH, SHORT, STORAGES, TAKEN};
 use crate::engine::records::*;
 
 mod bodies;
@@ -119,6 +119,9 @@ impl River {
                 let most = if high { most_due(k) } else { self.runoff_limit as u64 };
                 board[due(row, k)] = if rng.chance(40) { up_to(rng, most) } else { 0 };
             }
+        }
+        for place in 0..self.basin.rights.len() {
+            board[SHORT + place] = up_to(rng, 0xfff);
         }
         board
     }

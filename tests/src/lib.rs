@@ -1,8 +1,8 @@
 //! A plain telling of the river ledger's rules in ordinary Rust, written from the
 //! rules document ("01", see [`engine`]) alone, for comparison with the checked engine.
 //!
-//! * [`engine`]: check, fresh, month, stock, the years of a book; the tally of a list of
-//!   months.
+//! * [`engine`]: check, fresh, month, stock, a right's short months, the years of a book; the
+//!   tally of a list of months.
 //! * [`listing`]: what programs `riverrun` and `riveryear` print; [`retold`]: a listing
 //!   against the tally.
 //! * [`generate`], [`damage`]: valid basins and books, and those that break one rule.
@@ -10,8 +10,11 @@
 //! * [`cases`], [`runs`], [`years`]: what programs `rivercheck`, `riverrun` and `riveryear`
 //!   are run on, with what they print.
 //! * [`seeds`]: where the long comparisons begin.
-//! * `ffi` (feature `native`): the static library's C functions; [`lent`]: lists for them.
+//! * `ffi` (feature `native`): the static library's C functions; [`lent`]: lists for them;
+//!   `asked` (likewise): short months by both engines.
 
+#[cfg(feature = "native")]
+pub mod asked;
 pub mod calls;
 pub mod cases;
 pub mod damage;

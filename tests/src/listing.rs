@@ -2,7 +2,7 @@
 //! listing (01, One October, whole); and what `riveryear` does, in [`years`]. Of a file
 //! that is not there the caller hands no bytes.
 
-use crate::engine::board::{fresh, BOARD, DUES, MARKS, STORAGES};
+use crate::engine::board::{fresh, BOARD, DUES, MARKS, SHORT, STORAGES};
 use crate::engine::check::{judge, Judged};
 use crate::engine::month::month_on;
 use crate::engine::network::Network;
@@ -119,7 +119,7 @@ impl<'a> Run<'a> {
             report::evaporation(rights, rows, 0)..report::evaporation(rights, rows, reservoirs);
         let evaporation = self.report[evaporations].iter().sum();
         let storage = self.board[STORAGES..MARKS].iter().sum();
-        let pending = self.board[DUES..].iter().sum();
+        let pending = self.board[DUES..SHORT].iter().sum();
         push_number(text, number, b' ');
         text.extend_from_slice(b"end ");
         push_line(text, [outflow, evaporation, storage, pending]);

@@ -2,7 +2,7 @@
 //! tally with its assertions, and both must answer alike.
 
 use crate::calls::Calls;
-use crate::engine::board::BOARD;
+use crate::engine::board::{BOARD, SHORT};
 use crate::engine::records::{Basin, MONTHS};
 use crate::engine::report;
 use crate::engine::tally::Tally;
@@ -53,6 +53,7 @@ impl Run {
         let stations: Vec<u64> = past.grants.iter().map(|grant| grant.station as u64).collect();
         assert_eq!(self.grants().iter().map(|grant| grant[3]).collect::<Vec<_>>(), stations);
         assert_eq!(self.deep_loss() as i128, self.tally.deep_loss(past));
+        self.assert_short_months();
         answer.1
     }
 
@@ -73,7 +74,25 @@ impl Run {
         for (past, report) in self.tally.months[first..].iter().zip(reports) {
             assert_eq!(report[self.deep_place()] as i128, self.tally.deep_loss(past));
         }
+        self.assert_short_months();
         answer
+    }
+
+    /// The short months of every right, on the board and by the call, are the tally's.
+    fn assert_short_months(&self) {
+        for right in 0..self.rights {
+            assert_eq!(self.word(right), self.tally.short_word(right), "right {right}");
+            assert_eq!(self.short_months(right), [0, 0, self.tally.short_months(right)]);
+        }
+    }
+
+    /// The word of a right, with a bit for each month of the water year.
+    pub fn word(&self, right: usize) -> u64 {
+        self.board[SHORT + right]
+    }
+
+    pub fn short_months(&self, right: usize) -> [u64; 3] {
+        (self.calls.short_months)(&self.file, &self.board, right)
     }
 
     /// Makes the report of a month that the last year's run made, counted from 0, the one

@@ -3,7 +3,7 @@
 use river_tests::damage::*;
 use river_tests::engine::board::{BOARD, NEXT_MONTH};
 use river_tests::engine::records::{Basin, MOST_RUNOFF};
-use river_tests::engine::{check, fresh, month, stock};
+use river_tests::engine::{check, fresh, month, short_months, stock};
 use river_tests::examples::stations;
 use river_tests::generate::{any_river, river_of, Rng, Size};
 use std::collections::BTreeSet;
@@ -146,6 +146,7 @@ fn refused_files_change_nothing() {
         assert_eq!(fresh(&file, &mut board), (number, place), "{name}");
         assert_eq!(month(&file, &runoff, &mut board, &mut report), (number, place), "{name}");
         assert_eq!(stock(&file, &board), [number, place, 0, 0], "{name}");
+        assert_eq!(short_months(&file, &board, 0), [number, place, 0], "{name}");
         assert!(board.iter().all(|&n| n == 3) && report.iter().all(|&n| n == 4), "{name}");
     }
 }
@@ -166,6 +167,7 @@ fn each_impossible_board_is_refused() {
             let mut report = vec![9; river.basin.report_length()];
             let mut runoff = river.runoff(rng);
             assert_eq!(stock(&river.file, &board), [7, 0, 0, 0], "{name}, seed {seed}");
+            assert_eq!(short_months(&river.file, &board, 0), [7, 0, 0], "{name}, seed {seed}");
             // 7 comes before 8.
             runoff[0] = *rng.pick(&[0, u32::MAX]);
             let answer = month(&river.file, &runoff, &mut board, &mut report);
@@ -188,7 +190,7 @@ fn each_extreme_board_is_possible() {
             let mut board = river.possible_board(rng);
             edit(&river.basin, &mut board);
             let storages: u64 = board[1..9].iter().sum();
-            let dues: u64 = board[266..].iter().sum();
+            let dues: u64 = board[266..970].iter().sum();
             assert_eq!(stock(&river.file, &board), [0, 0, storages, dues], "{name}");
             let mut report = vec![0; river.basin.report_length()];
             let m = board[NEXT_MONTH];
@@ -240,10 +242,11 @@ fn wrong_lengths_are_refused() {
             assert_eq!(board, before);
             assert!(report.iter().all(|&number| number == 6));
         }
-        for boards in [0, 969, 971] {
+        for boards in [0, 969, 970, 971, 1225, 1227] {
             let mut board = vec![8; boards];
             assert_eq!(fresh(&river.file, &mut board), (6, 0));
             assert_eq!(stock(&river.file, &board), [6, 0, 0, 0]);
+            assert_eq!(short_months(&river.file, &board, 0), [6, 0, 0]);
             assert!(board.iter().all(|&number| number == 8));
         }
     }

@@ -106,6 +106,7 @@ fn october_with_its_pattern_cut() {
     let mut after = vec![0; BOARD];
     (after[0], after[1], after[10 + 2]) = (1, 1026, 701);
     after[266 + 11 * 2] = 242;
+    (after[970 + 2], after[970 + 4]) = (1, 1);
     // 3000 of runoff and 1000 stored: consumed 1500, 396 and 600, evaporated, stored, on
     // their way and deep.
     assert_eq!(2000 + 700 + 300 + 1000, 1500 + 396 + 600 + 75 + 1026 + 242 + 161);

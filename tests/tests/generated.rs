@@ -28,6 +28,30 @@ fn possible_boards_are_accepted() {
     }
 }
 
+/// Words of short months on possible boards: each bit set and clear, all of them and none,
+/// months that are over and months that are still to be run.
+#[test]
+fn possible_boards_have_words_of_all_kinds() {
+    let (mut words, mut none, mut all, mut ahead) = (0, 0, 0, 0);
+    let mut set = [0; 12];
+    for seed in 0..500 {
+        let rng = &mut Rng::new(seed);
+        let river = any_river(rng);
+        let board = river.possible_board(rng);
+        let (there, missing) = board[board::SHORT..].split_at(river.basin.rights.len());
+        assert!(missing.iter().all(|&word| word == 0), "seed {seed}");
+        for &word in there {
+            words += 1;
+            none += (word == 0) as usize;
+            all += (word == 0xfff) as usize;
+            ahead += (word >> board[board::NEXT_MONTH] != 0) as usize;
+            set.iter_mut().enumerate().for_each(|(m, times)| *times += (word >> m & 1) as usize);
+        }
+    }
+    assert!(none > 1000 && all > 1000 && ahead > 1000 && none + all < words / 2);
+    assert!(set.iter().all(|times| (words / 3..words * 2 / 3).contains(times)), "{words} {set:?}");
+}
+
 #[test]
 fn books_are_sound_and_of_every_length() {
     let mut met = [0; 21];

@@ -1,10 +1,13 @@
 //! The static library against the plain engine, over valid files, every
 //! damage and random damage: number and place of the check; answer and every
-//! number of the board for fresh; all four numbers of stock. Where the rules give
-//! the answer of a damage, it is asked of the library too. Feature `native`.
+//! number of the board for fresh; all four numbers of stock and all three of short
+//! months. Where the rules give the answer of a damage, it is asked of the library
+//! too. Feature `native`.
 
+use river_tests::asked::Asked;
 use river_tests::damage::*;
-use river_tests::engine::board::BOARD;
+use river_tests::engine::board::{BOARD, SHORT};
+use river_tests::engine::records::MOST_RIGHTS;
 use river_tests::engine::{check, fresh, stock, Answer};
 use river_tests::ffi;
 use river_tests::generate::{any_river, largest, Rng};
@@ -135,7 +138,7 @@ fn boards_possible_and_impossible() {
                 compare(&river.file, &board, name, Some(7));
             }
         }
-        for length in [0, 1, BOARD - 1, BOARD + 1] {
+        for length in [0, 1, SHORT, BOARD - 1, BOARD + 1] {
             compare(&river.file, &vec![5; length], "length", Some(6));
         }
         compare(&random_damage(rng, &river.file), &board, "damaged", None);
@@ -143,4 +146,90 @@ fn boards_possible_and_impossible() {
     let boards: usize = by_number.iter().sum();
     println!("{boards} boards: fresh and stock, by number 0 to 7 {by_number:?}");
     assert!([0, 6, 7].iter().all(|&number: &usize| by_number[number] > 500), "{by_number:?}");
+}
+
+/// Every right of a possible board, and numbers that none has.
+#[test]
+fn short_months_of_every_right() {
+    let rng = &mut Rng::new(25);
+    let mut asked = Asked::default();
+    for seed in 0..300 {
+        let river = any_river(&mut Rng::new(seed));
+        let board = river.possible_board(rng);
+        let rights = river.basin.rights.len();
+        for right in 0..rights {
+            let told = asked.compare(&river.file, &board, right, &format!("seed {seed}"));
+            assert_eq!(told[..2], [0, 0], "seed {seed}");
+        }
+        for right in (rights..rights + 3).chain([MOST_RIGHTS, 1 << 16, 1 << 32, usize::MAX]) {
+            let told = asked.compare(&river.file, &board, right, &format!("seed {seed}"));
+            assert_eq!(told, [0, 0, 0], "seed {seed}");
+        }
+    }
+    asked.print("every right");
+    assert!(asked.months.iter().all(|&times| times > 5), "{asked:?}");
+}
+
+/// One that is there, if there is one, and one that is not.
+fn two_rights(rights: usize, rng: &mut Rng) -> [usize; 2] {
+    [rng.below(rights.max(1)), *rng.pick(&[rights, MOST_RIGHTS, usize::MAX])]
+}
+
+#[test]
+fn short_months_on_boards_possible_and_impossible() {
+    let rng = &mut Rng::new(26);
+    let mut asked = Asked::default();
+    for seed in 0..300 {
+        let river = any_river(&mut Rng::new(seed));
+        let rights = two_rights(river.basin.rights.len(), rng);
+        let board = river.possible_board(rng);
+        let mut ask = |board: &[u64], what: &str, wanted: u64| {
+            for right in rights {
+                let told = asked.compare(&river.file, board, right, &what);
+                assert_eq!(told[..2], [wanted, 0], "{what}");
+                assert!(wanted == 0 || told[2] == 0, "{what}");
+            }
+        };
+        for &(name, edit) in POSSIBLE {
+            let mut board = board.clone();
+            edit(&river.basin, &mut board);
+            ask(&board, name, 0);
+        }
+        for &(name, edit) in IMPOSSIBLE {
+            let mut board = board.clone();
+            if impossible_board(edit, &river.basin, &mut board, rng).is_some() {
+                ask(&board, name, 7);
+            }
+        }
+        for length in [0, 1, SHORT, BOARD - 1, BOARD + 1] {
+            ask(&vec![5; length], "length", 6);
+        }
+    }
+    asked.print("on boards possible and impossible");
+    assert!([0, 6, 7].iter().all(|&number: &usize| asked.numbers[number] > 500), "{asked:?}");
+}
+
+#[test]
+fn short_months_of_damaged_files() {
+    let rng = &mut Rng::new(27);
+    let mut asked = Asked::default();
+    for &(name, number, edit) in BROKEN.iter() {
+        let mut basin = rich_base();
+        let place = edit(&mut basin, rng).unwrap() as u64;
+        for right in two_rights(basin.rights.len(), rng) {
+            // A board of any length and content: the file comes first.
+            let board = vec![u64::MAX; *rng.pick(&[0, BOARD - 1, BOARD])];
+            let told = asked.compare(&basin.encode(), &board, right, &name);
+            assert_eq!(told, [number, place, 0], "{name}");
+        }
+    }
+    for seed in 0..300 {
+        let river = any_river(&mut Rng::new(seed));
+        let (file, board) = (random_damage(rng, &river.file), river.possible_board(rng));
+        for right in two_rights(river.basin.rights.len(), rng) {
+            asked.compare(&file, &board, right, &format!("seed {seed}"));
+        }
+    }
+    asked.print("of damaged files");
+    assert!(asked.numbers[..=5].iter().all(|&times| times > 10), "{asked:?}");
 }

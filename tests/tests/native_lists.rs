@@ -1,10 +1,10 @@
 //! Lists as a caller may lend them to the static library: empty ones whose pointer leads
 //! nowhere, a file at any address, numbers with all their 64 bits. Feature `native`.
 
-use river_tests::engine::board::BOARD;
+use river_tests::engine::board::{BOARD, SHORT};
 use river_tests::engine::book::encode;
 use river_tests::engine::report::LONGEST;
-use river_tests::engine::{fresh, month, run_year, stock};
+use river_tests::engine::{fresh, month, run_year, short_months, stock};
 use river_tests::ffi;
 use river_tests::generate::{any_river, river_of, Rng, Size};
 use river_tests::lent::Lent;
@@ -51,6 +51,9 @@ fn empty_lists_lead_nowhere() {
                 let number = if no_file { 1 } else { 6 };
                 let list = if no_board { nowhere_to_write() } else { lent_board.list() };
                 assert_eq!(ffi::stock(file, list), [number, 0, 0, 0], "{at}");
+                for right in [0, usize::MAX] {
+                    assert_eq!(ffi::short_months(file, list, right), [number, 0, 0], "{at}");
+                }
                 assert_eq!(ffi::fresh(file, list), (number, 0), "{at}");
                 lent_board.assert_is(&board, "board of fresh", &at);
             }
@@ -140,6 +143,8 @@ fn a_file_lies_at_any_address() {
             assert_eq!(ffi::fresh(file, &mut fresh_board), (0, 0), "{at}");
             assert_eq!(ffi::stock(file, &fresh_board), stock(&river.file, &fresh_board), "{at}");
             let (mut lent_board, mut report) = (Lent::of(&board), vec![9; LONGEST]);
+            let months = short_months(&river.file, &board, shift);
+            assert_eq!(ffi::short_months(file, lent_board.list(), shift), months, "{at}");
             assert_eq!(ffi::month(file, &runoff, lent_board.list(), &mut report), plain, "{at}");
             lent_board.assert_is(&plain_board, "board", &at);
         }
@@ -165,6 +170,9 @@ fn numbers_keep_all_their_bits() {
                 let told = stock(&river.file, &high);
                 let at = format!("seed {seed}, bit {bit} at place {place}");
                 assert_eq!(ffi::stock(&river.file, &high), told, "{at}");
+                let months = ffi::short_months(&river.file, &high, place % 256);
+                assert_eq!(months, short_months(&river.file, &high, place % 256), "{at}");
+                assert_eq!(months[0], told[0], "{at}");
                 let (mut lent, mut report) = (Lent::of(&high), vec![9; LONGEST]);
                 let answer = ffi::month(&river.file, &runoff, lent.list(), &mut report);
                 assert_eq!(answer.0, told[0], "{at}");
@@ -178,4 +186,25 @@ fn numbers_keep_all_their_bits() {
         }
     }
     assert!(refused > 30_000, "{refused}");
+}
+
+/// A right's place with one more bit set, from the lowest that goes beyond all rights: were it
+/// cut to its low bits, it would pass for one that is there.
+#[test]
+fn a_rights_place_keeps_all_its_bits() {
+    for seed in 0..20 {
+        let river = river_of(&mut Rng::new(seed), Size::Limit);
+        let mut board = vec![0; BOARD];
+        assert_eq!(fresh(&river.file, &mut board), (0, 0));
+        board[SHORT..].fill(0xfff);
+        for right in 0..256usize {
+            assert_eq!(ffi::short_months(&river.file, &board, right), [0, 0, 12]);
+        }
+        for bit in 8..usize::BITS {
+            for right in [0, 7, 255] {
+                let far = right | 1 << bit;
+                assert_eq!(ffi::short_months(&river.file, &board, far), [0, 0, 0], "right {far}");
+            }
+        }
+    }
 }

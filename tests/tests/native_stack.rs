@@ -74,6 +74,9 @@ impl Deepest {
         self.see("check", || _ = ffi::check(file));
         self.see("verdict", || _ = ffi::verdict(file));
         self.see("stock", || _ = ffi::stock(file, board));
+        for right in [0, usize::MAX] {
+            self.see("short_months", || _ = ffi::short_months(file, board, right));
+        }
         self.see("fresh", || _ = ffi::fresh(file, &mut lent));
         lent.copy_from_slice(board);
         self.see("month", || _ = ffi::month(file, runoff, &mut lent, &mut told));

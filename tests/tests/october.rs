@@ -52,6 +52,8 @@ fn board_and_report_by_hand() {
     after[10 + 2] = 701;
     after[266 + 11 * 2] = 242;
     after[266 + 11 * 2 + 1] = 161;
+    // Rights 13 and 15 are short in October, the month of bit 0.
+    (after[970 + 2], after[970 + 4]) = (1, 1);
     by_each(|calls| {
         assert_eq!((calls.check)(&file), (0, 0));
         let mut board = vec![7; BOARD];

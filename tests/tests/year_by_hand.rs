@@ -5,7 +5,7 @@
 //! project right of 4 has that lake behind it. Nothing evaporates.
 
 use river_tests::calls::by_each;
-use river_tests::engine::board::{due, BOARD, NEXT_MONTH, STORAGES, TAKEN};
+use river_tests::engine::board::{due, BOARD, NEXT_MONTH, SHORT, STORAGES, TAKEN};
 use river_tests::engine::book::{encode, WaterYear};
 use river_tests::engine::records::{Basin, MOST_RUNOFF};
 use river_tests::examples::*;
@@ -83,12 +83,17 @@ fn assert_months(run: &mut Run, first: usize) {
     }
 }
 
-/// The board after September: 1 is stored, 20 were taken, 5 return in October.
+/// The board after September: 1 is stored, 20 were taken, 5 return in October. The first right
+/// was short in November, January and August; the second up to March, but for December; the
+/// third in November.
 fn assert_after_september(board: &[u64]) {
     let mut expected = [0; BOARD];
     expected[STORAGES] = 1;
     expected[TAKEN + 1] = 20;
     expected[due(0, 1)] = 5;
+    expected[SHORT] = 1 << 1 | 1 << 3 | 1 << 10;
+    expected[SHORT + 1] = 1 << 0 | 1 << 1 | 1 << 3 | 1 << 4 | 1 << 5;
+    expected[SHORT + 2] = 1 << 1;
     assert_eq!(board, expected);
 }
 

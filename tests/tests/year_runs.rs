@@ -4,7 +4,7 @@
 
 use river_tests::calls::{by_each, Calls};
 use river_tests::damage::*;
-use river_tests::engine::board::{BOARD, NEXT_MONTH};
+use river_tests::engine::board::{BOARD, NEXT_MONTH, SHORT};
 use river_tests::engine::book::{encode, WaterYear};
 use river_tests::engine::records::MOST_RUNOFF;
 use river_tests::engine::{month, Answer};
@@ -105,7 +105,7 @@ fn a_list_too_short_is_refused() {
                 }
                 job.assert_refused(calls, (6, 0));
             }
-            for numbers in [0, 1, BOARD - 1, BOARD + 1] {
+            for numbers in [0, 1, SHORT, BOARD - 1, BOARD + 1] {
                 let mut job = job();
                 job.board.resize(numbers, 0);
                 job.assert_refused(calls, (6, 0));

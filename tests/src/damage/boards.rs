@@ -1,5 +1,5 @@
 //! Boards that are not possible, each for one clause, and extreme ones that are.
-//! Places and limits are written out from 01, not taken from the engine.
+//! Places and limits are written out from 01 and 02, not taken from the engine.
 
 use super::edits::{any_place, of_kind};
 use crate::engine::records::*;
@@ -25,6 +25,7 @@ const M: usize = 0;
 const STORAGES: usize = 1;
 const MARKS: usize = 9;
 const TAKEN: usize = 10;
+const SHORT: usize = 970;
 
 fn due(row: usize, k: usize) -> usize {
     266 + 11 * row + (k - 1)
@@ -39,6 +40,16 @@ fn right_of_kind(basin: &Basin, rng: &mut Rng, kind: u8) -> Option<usize> {
     let fitting: Vec<usize> =
         (0..basin.rights.len()).filter(|&place| fits(&basin.rights[place])).collect();
     Some(fitting[any_place(rng, fitting.len())?])
+}
+
+/// A number that cannot be the word of a right that is there.
+fn word(basin: &Basin, rng: &mut Rng, number: u64) -> Option<(usize, u64)> {
+    Some((SHORT + any_place(rng, basin.rights.len())?, number))
+}
+
+/// The same of one that is not: any number but 0.
+fn word_of_none(basin: &Basin, right: usize, number: u64) -> Option<(usize, u64)> {
+    (right >= basin.rights.len() && right < 256).then_some((SHORT + right, number))
 }
 
 /// Every one is to be answered 7, 0.
@@ -92,6 +103,21 @@ pub const IMPOSSIBLE: &[(&str, Impossible)] = &[
     }),
     ("due without a row", |b, _| (b.stations.len() < 64).then_some((due(b.stations.len(), 1), 1))),
     ("due in place 969 without a row", |b, _| (b.stations.len() < 64).then_some((969, 1))),
+    ("short in bit 12", |b, rng| word(b, rng, 1 << 12)),
+    ("short in bits 0 to 12", |b, rng| word(b, rng, (1 << 13) - 1)),
+    ("short in bit 31", |b, rng| word(b, rng, 1 << 31)),
+    ("short in bits 0 and 32", |b, rng| word(b, rng, (1 << 32) + 1)),
+    ("short in bit 63", |b, rng| word(b, rng, 1 << 63)),
+    ("short in all bits", |b, rng| word(b, rng, u64::MAX)),
+    ("last right short in bit 12", |b, _| {
+        (!b.rights.is_empty()).then_some((SHORT + b.rights.len() - 1, 1 << 12))
+    }),
+    ("short without a right", |b, _| word_of_none(b, b.rights.len(), 1)),
+    ("short in September without a right", |b, rng| {
+        let more = any_place(rng, 256 - b.rights.len())?;
+        word_of_none(b, b.rights.len() + more, 1 << 11)
+    }),
+    ("short in place 1225 without a right", |b, _| word_of_none(b, 255, 1)),
 ];
 
 /// Makes a possible board extreme, but still possible.
@@ -118,5 +144,11 @@ pub const POSSIBLE: &[(&str, Extreme)] = &[
                 board[due(row, k)] = due_limit(k);
             }
         }
+    }),
+    ("all short in every month", |b, board| board[SHORT..SHORT + b.rights.len()].fill(0xfff)),
+    ("short in no month", |_, board| board[SHORT..].fill(0)),
+    ("short in the months still to be run", |b, board| {
+        let ahead = 0xfff & !((1 << board[M]) - 1);
+        board[SHORT..SHORT + b.rights.len()].fill(ahead);
     }),
 ];

@@ -6,13 +6,15 @@ use super::records::*;
 use super::slip::{Slip, Telling};
 use super::Answer;
 
-/// Numbers on a board (01, The board and one month).
-pub const BOARD: usize = 970;
+/// Numbers on a board (01, The board and one month; 02, No. 6).
+pub const BOARD: usize = SHORT + MOST_RIGHTS;
 pub const NEXT_MONTH: usize = 0;
 pub const STORAGES: usize = 1;
 pub const MARKS: usize = 9;
 pub const TAKEN: usize = 10;
 pub const DUES: usize = 266;
+/// A word for each right, with bit m for a month m of the water year in which it was short.
+pub const SHORT: usize = 970;
 /// Dues kept per row, k = 1 to 11.
 pub const LAGS: usize = 11;
 
@@ -45,13 +47,14 @@ pub fn possible<T: Telling>(telling: &T, basin: &Judged, board: &[u64]) -> bool 
     let empty_fits = telling.slips(Slip::BoardEmptyPlacesAny)
         || (all_zero(&board[STORAGES + reservoirs..MARKS])
             && all_zero(&board[TAKEN + rights..DUES])
-            && all_zero(&board[DUES + LAGS * rows..]));
+            && all_zero(&board[DUES + LAGS * rows..SHORT]));
     month_fits
         && marks_fit
         && empty_fits
         && storages_fit(telling, basin, board)
         && taken_fits(telling, basin, board)
         && (0..rows).all(|row| dues_fit(telling, &board[due(row, 1)..]))
+        && words_fit(telling, board, rights)
 }
 
 fn all_zero(places: &[u64]) -> bool {
@@ -86,19 +89,46 @@ fn dues_fit<T: Telling>(telling: &T, dues: &[u64]) -> bool {
     })
 }
 
-/// The board on which a basin begins: the reservoirs hold what the file says, and
-/// nothing is marked, taken or due.
+/// Of the words that are there nothing stands above the bit of September, and of the others
+/// nothing at all (02, No. 6). Any months may be told, those that are still to be run among
+/// them. All are gone through, without a branch at each.
+fn words_fit<T: Telling>(telling: &T, board: &[u64], rights: usize) -> bool {
+    let union = |words: &[u64]| words.iter().fold(0, |bits, word| bits | word);
+    let (words, others) = board[SHORT..].split_at(rights);
+    let mut all = union(words);
+    if telling.slips(Slip::BoardShortLowHalfOnly) {
+        all &= u32::MAX as u64;
+    }
+    let bits = if telling.slips(Slip::BoardShortBit12) {
+        13
+    } else if telling.slips(Slip::BoardShortWithoutSeptember) {
+        11
+    } else if telling.slips(Slip::BoardShortRunMonthsOnly) && board[NEXT_MONTH] > 0 {
+        board[NEXT_MONTH]
+    } else {
+        MONTHS as u64
+    };
+    (all >> bits == 0 || telling.slips(Slip::BoardShortAny))
+        && (union(others) == 0 || telling.slips(Slip::BoardShortOfNoRight))
+}
+
+/// The board on which a basin begins: the reservoirs hold what the file says, nothing is
+/// marked, taken or due, and no right has been short.
 pub fn fresh<T: Telling>(telling: &T, file: &[u8], board: &mut [u64]) -> Answer {
     let mut network = Network::room();
     let basin = match judge(telling, file, &mut network) {
         Ok(basin) => basin,
         Err(refusal) => return refusal.answer(),
     };
-    if board.len() != BOARD {
+    let old_length = telling.slips(Slip::FreshBoardOf970) && board.len() == SHORT;
+    if board.len() != BOARD && !old_length {
         return WRONG_LENGTH.answer();
     }
     if telling.slips(Slip::FreshAddsOntoBoard) {
         board[..DUES].fill(0);
+        board[SHORT..].fill(0);
+    } else if telling.slips(Slip::FreshKeepsShortWords) {
+        board[..SHORT].fill(0);
     } else {
         board.fill(0);
     }
@@ -108,27 +138,39 @@ pub fn fresh<T: Telling>(telling: &T, file: &[u8], board: &mut [u64]) -> Answer 
     (0, 0)
 }
 
+/// What is turned down of a board alone, by a call that is lent no other list: refusals 6 and 7.
+pub fn judge_whole_board<T: Telling>(
+    telling: &T,
+    basin: &Judged,
+    board: &[u64],
+) -> Result<(), Refusal> {
+    if board.len() != BOARD {
+        return Err(WRONG_LENGTH);
+    }
+    if !possible(telling, basin, board) {
+        return Err(NOT_POSSIBLE);
+    }
+    Ok(())
+}
+
 /// Number and place, then what the reservoirs hold and what is due, both summed; a
 /// refused call sums nothing (01, Stock, and the C caller).
 pub fn stock<T: Telling>(telling: &T, file: &[u8], board: &[u64]) -> [u64; 4] {
-    let refused = |refusal: Refusal| [refusal.number, refusal.place, 0, 0];
     let mut network = Network::room();
     let basin = match judge(telling, file, &mut network) {
         Ok(basin) => basin,
-        Err(refusal) => return refused(refusal),
+        Err(refusal) => return [refusal.number, refusal.place, 0, 0],
     };
-    if board.len() != BOARD {
-        return refused(WRONG_LENGTH);
-    }
     let storages = || board[STORAGES..MARKS].iter().fold(0, |sum: u64, &s| sum.wrapping_add(s));
-    if !possible(telling, &basin, board) {
-        let told = if telling.slips(Slip::RefusedStockTold) { storages() } else { 0 };
-        return [7, 0, told, 0];
+    if let Err(refusal) = judge_whole_board(telling, &basin, board) {
+        let tells = telling.slips(Slip::RefusedStockTold) && refusal == NOT_POSSIBLE;
+        return [refusal.number, refusal.place, if tells { storages() } else { 0 }, 0];
     }
+    let end = if telling.slips(Slip::StockSumsShortWords) { BOARD } else { SHORT };
     let dues = if telling.slips(Slip::StockFirstDueOnly) {
-        board[DUES..].iter().step_by(LAGS).sum()
+        board[DUES..SHORT].iter().step_by(LAGS).sum()
     } else {
-        board[DUES..].iter().fold(0, |sum: u64, &d| sum.wrapping_add(d))
+        board[DUES..end].iter().fold(0, |sum: u64, &d| sum.wrapping_add(d))
     };
     [0, 0, storages(), dues]
 }

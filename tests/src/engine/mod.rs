@@ -15,6 +15,7 @@ pub mod network;
 pub mod records;
 pub mod report;
 pub mod sections;
+pub mod short_months;
 pub mod slip;
 pub mod split;
 pub mod tally;
@@ -49,6 +50,11 @@ pub fn month(file: &[u8], runoff: &[u32], board: &mut [u64], report: &mut [u64])
 /// Number, place, sum of storages, sum of dues.
 pub fn stock(file: &[u8], board: &[u64]) -> [u64; 4] {
     board::stock(&Faithful, file, board)
+}
+
+/// Number, place, and in how many months of the board's water year a right was short.
+pub fn short_months(file: &[u8], board: &[u64], right: usize) -> [u64; 3] {
+    short_months::short_months(&Faithful, file, board, right)
 }
 
 /// The body of a year, as a part of the book; empty where the look-up is refused.

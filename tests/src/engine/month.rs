@@ -17,6 +17,7 @@ use super::Answer;
 mod reasons;
 mod refusals;
 mod returns;
+mod shortages;
 mod turn;
 pub use refusals::judge_runoff;
 
@@ -48,7 +49,7 @@ pub fn month_on<T: Telling>(
 ) -> Answer {
     match refusals::judge_call(telling, basin, runoff, board, report) {
         Ok(()) => (0, run_month(telling, basin, runoff, board, report)),
-        Err(refusal) => refusal.answer(),
+        Err(refusal) => refusals::refuse(telling, refusal, board),
     }
 }
 
@@ -175,10 +176,14 @@ impl<'a, T: Telling> Month<'a, T> {
         u32_at(&self.basin.sections.reservoirs[reservoir], 4) as i64
     }
 
-    /// Step 1: a year begins in October, with nothing stored and no reservoir filled in it.
+    /// Step 1: a year begins in October, with nothing stored, no reservoir filled and no
+    /// right short in it.
     fn clear_in_october(&mut self) {
         if self.m != 0 {
             return;
+        }
+        if !self.slips(Slip::OctoberKeepsWords) && !self.slips(Slip::OctoberClearsWordsLast) {
+            self.clear_words();
         }
         if !self.slips(Slip::OctoberKeepsTaken) {
             self.board[TAKEN..TAKEN + self.basin.sections.rights.len()].fill(0);
@@ -278,7 +283,8 @@ impl<'a, T: Telling> Month<'a, T> {
     }
 
     /// Step 5: October follows September.
-    fn end(self) {
+    fn end(mut self) {
+        self.clear_words_late();
         for place in 0..self.basin.sections.reservoirs.len() {
             self.board[STORAGES + place] = self.storage[place] as u64;
         }

@@ -1,8 +1,8 @@
 //! The tally of a list of months, the account of a run, told as slowly and as
 //! literally as the rules tell it (01, The tally of a list of months). It shares the
 //! records and the file's check with the engine, and nothing of the month: paths are
-//! walked row by row, returns on their way and deep loss are worked out from the grants
-//! of the past months.
+//! walked row by row; returns on their way, deep loss and short months are worked out
+//! from the grants of the past months.
 //!
 //! After every call it asserts the water sum and each reservoir's account; before the
 //! first right and three times in each right's turn, that at every row
@@ -18,15 +18,18 @@ mod paths;
 mod refusals;
 mod river;
 mod shares;
+mod short_months;
+mod start;
 #[cfg(test)]
 mod tests;
 mod years;
 pub use lakes::area;
 pub use paths::{path, row_below};
-use refusals::{decode, refused};
+use refusals::refused;
 use river::River;
 use shares::shares;
 pub use shares::split;
+use start::Start;
 
 /// What a right was given in a month, and why no more.
 #[derive(Clone, Debug, PartialEq, Eq)]
@@ -78,6 +81,7 @@ pub struct PastMonth {
 pub struct Tally {
     basin: Result<Basin, Refusal>,
     paths: Vec<Vec<usize>>,
+    start: Start,
     pub m: usize,
     pub storages: Vec<i128>,
     pub marks: Vec<bool>,
@@ -87,19 +91,6 @@ pub struct Tally {
 }
 
 impl Tally {
-    /// It begins with the reservoirs as the file fills them, and no month.
-    pub fn new(file: &[u8]) -> Tally {
-        let basin = decode(file);
-        let empty = Basin::default();
-        let known = basin.as_ref().unwrap_or(&empty);
-        let rows = known.stations.len();
-        let paths = (0..rows).map(|row| path(&known.stations, row)).collect();
-        let storages = known.reservoirs.iter().map(|r| r.start as i128).collect();
-        let marks = vec![false; known.reservoirs.len()];
-        let taken = vec![0; known.rights.len()];
-        Tally { basin, paths, m: 0, storages, marks, taken, months: Vec::new() }
-    }
-
     /// One call. It is told what a month call is, but for the board, and of the report
     /// only how long it is; it answers as the month call does.
     pub fn call(&mut self, runoff: &[u32], report_length: usize) -> Answer {
@@ -257,10 +248,13 @@ impl Tally {
 
     /// What is on its way after n months: a share that a grant of month j returns s
     /// months later arrives in month j + s, which is k months on. Place k - 1 of a row
-    /// holds k.
+    /// holds k. What was due at the start k + n months on is now due at k.
     fn pending(&self, basin: &Basin) -> Vec<[i128; 11]> {
         let n = self.months.len();
         let mut pending = vec![[0; 11]; basin.stations.len()];
+        for (pending, dues) in pending.iter_mut().zip(&self.start.dues) {
+            pending.iter_mut().zip(dues.iter().skip(n)).for_each(|(now, due)| *now = *due);
+        }
         // A share comes at most 11 months late: older months have none left.
         for j in n.saturating_sub(11) + 1..=n {
             for (right, grant) in basin.rights.iter().zip(&self.months[j - 1].grants) {

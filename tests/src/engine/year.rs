@@ -126,6 +126,7 @@ fn run<T: Telling>(
     let length = sections.report_length();
     let mut room = [0; MOST_STATIONS];
     let mut calls = 0;
+    let words = telling.slips(Slip::RunKeepsNoShortMonths).then(|| board[SHORT..].to_vec());
     for part in sheets.chunks_exact(sheet_bytes(sections.stations.len())) {
         let runoff = decode(part, &mut room);
         if !judges_first(telling) {
@@ -147,6 +148,9 @@ fn run<T: Telling>(
     }
     if telling.slips(Slip::ReportsTailCleared) {
         reports[length * calls..].fill(0);
+    }
+    if let Some(words) = words {
+        board[SHORT..].copy_from_slice(&words);
     }
     (0, if telling.slips(Slip::TwelveAnswered) { 12 } else { calls as u64 })
 }

@@ -1,6 +1,7 @@
 //! One month call by both engines: answer, whole board, whole report, and the numbers
-//! that lie beside both.
+//! that lie beside both; then a right's short months on the board that is left.
 
+use river_tests::asked::Asked;
 use river_tests::engine::sections::find_sections;
 use river_tests::engine::slip::Faithful;
 use river_tests::engine::{month, report, Answer};
@@ -41,6 +42,8 @@ pub struct Compared {
     pub reasons: [usize; 4],
     /// Accepted calls in which water went deep.
     pub deep: usize,
+    /// After every call, of one right.
+    pub asked: Asked,
 }
 
 impl Compared {
@@ -55,6 +58,8 @@ impl Compared {
         assert_eq!(native, answer, "{at}: the answer");
         self.calls += 1;
         self.numbers[answer.0 as usize] += 1;
+        let rights = find_sections(&Faithful, &call.file).map_or(0, |found| found.rights.len());
+        self.asked.compare_next(&call.file, &board, rights, at);
         if answer.0 != 0 {
             native_board.assert_is(&call.board, "refused, board", at);
             native_report.assert_is(&call.report, "refused, report", at);
@@ -85,5 +90,6 @@ impl Compared {
              by reason 0 to 3 {:?}",
             self.calls, self.numbers, self.deep, self.reasons
         );
+        self.asked.print(what);
     }
 }

@@ -2,7 +2,7 @@
 
 use crate::compare::Call;
 use river_tests::damage::*;
-use river_tests::engine::board::BOARD;
+use river_tests::engine::board::{BOARD, SHORT};
 use river_tests::engine::records::MOST_RUNOFF;
 use river_tests::generate::{River, Rng};
 
@@ -35,7 +35,9 @@ pub const SPOILS: &[(&str, Spoil)] = &[
             }
         }
     }),
-    ("board too short", |call, _, rng| call.board.truncate(*rng.pick(&[0, 1, 500, BOARD - 1]))),
+    ("board too short", |call, _, rng| {
+        call.board.truncate(*rng.pick(&[0, 1, 500, SHORT, BOARD - 1]))
+    }),
     ("board too long", |call, _, rng| call.board.resize(*rng.pick(&[BOARD + 1, 2 * BOARD]), 0)),
     ("impossible board", |call, river, rng| {
         if call.board.len() == BOARD {

@@ -1,9 +1,13 @@
 //! One look-up and one run of a year by both engines: answers, whole board, whole list,
-//! and the numbers that lie beside both.
+//! and the numbers that lie beside both; then a right's short months on the board that is
+//! left.
 
+use river_tests::asked::Asked;
 use river_tests::engine::board::NEXT_MONTH;
 use river_tests::engine::book::{encode, WaterYear};
 use river_tests::engine::report::LONGEST;
+use river_tests::engine::sections::find_sections;
+use river_tests::engine::slip::Faithful;
 use river_tests::engine::{find_year, run_year, Answer};
 use river_tests::ffi;
 use river_tests::generate::{any_river, River, Rng};
@@ -60,6 +64,8 @@ pub struct Compared {
     pub look_ups: [usize; 11],
     /// Accepted runs by the month that they begin with.
     pub from: [usize; 12],
+    /// After every run, of one right.
+    pub asked: Asked,
 }
 
 impl Compared {
@@ -77,6 +83,8 @@ impl Compared {
         let own = [0, 6, 7, 8].contains(&answer.0);
         assert_eq!(found, if own { (0, 0) } else { answer }, "{at}: the look-up");
         self.runs[answer.0 as usize] += 1;
+        let rights = find_sections(&Faithful, file).map_or(0, |found| found.rights.len());
+        self.asked.compare_next(file, &board, rights, at);
         if answer.0 != 0 {
             native_board.assert_is(&ask.board, "refused, board", at);
             native_reports.assert_is(&ask.reports, "refused, list", at);
@@ -115,5 +123,6 @@ impl Compared {
             sum(&self.look_ups),
             self.look_ups
         );
+        self.asked.print(what);
     }
 }

@@ -12,7 +12,7 @@ mod spoils;
 
 use compare::{Ask, Compared, Shelf};
 use river_tests::damage::*;
-use river_tests::engine::board::{BOARD, NEXT_MONTH};
+use river_tests::engine::board::{BOARD, NEXT_MONTH, SHORT};
 use river_tests::engine::book::{encode, MOST_YEARS};
 use river_tests::engine::{fresh, month};
 use river_tests::ffi;
@@ -215,7 +215,7 @@ fn boards_and_lists() {
         {
             run(&board, length, 6, "possible");
         }
-        for length in [0, 1, BOARD - 1, BOARD + 1] {
+        for length in [0, 1, SHORT, BOARD - 1, BOARD + 1] {
             run(&vec![0; length], enough, 6, "a board of another length");
         }
         let rng = &mut Rng::new(seed);

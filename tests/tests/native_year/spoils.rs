@@ -2,7 +2,7 @@
 
 use crate::compare::{Ask, Shelf};
 use river_tests::damage::*;
-use river_tests::engine::board::BOARD;
+use river_tests::engine::board::{BOARD, SHORT};
 use river_tests::engine::book::encode;
 use river_tests::generate::Rng;
 
@@ -33,7 +33,9 @@ pub const SPOILS: &[(&str, Spoil)] = &[
         years.iter_mut().for_each(|year| _ = shelf.river.put_over(rng, year, month));
         ask.book = encode(&years);
     }),
-    ("board too short", |ask, _, rng| ask.board.truncate(*rng.pick(&[0, 1, 500, BOARD - 1]))),
+    ("board too short", |ask, _, rng| {
+        ask.board.truncate(*rng.pick(&[0, 1, 500, SHORT, BOARD - 1]))
+    }),
     ("board too long", |ask, _, rng| ask.board.resize(*rng.pick(&[BOARD + 1, 2 * BOARD]), 0)),
     ("impossible board", |ask, shelf, rng| {
         if ask.board.len() == BOARD {

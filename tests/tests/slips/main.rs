@@ -5,12 +5,13 @@
 mod years;
 
 use river_tests::damage::*;
-use river_tests::engine::board::{self, BOARD};
+use river_tests::engine::board::{self, BOARD, SHORT};
 use river_tests::engine::check::judge;
 use river_tests::engine::month;
 use river_tests::engine::network::Network;
-use river_tests::engine::records::MOST_RUNOFF;
+use river_tests::engine::records::{MOST_RIGHTS, MOST_RUNOFF};
 use river_tests::engine::sections::find_sections;
+use river_tests::engine::short_months::short_months;
 use river_tests::engine::slip::{Faithful, Slipped, Telling, ALL};
 use river_tests::engine::{self, check, fresh, report, stock};
 use river_tests::generate::{any_river, largest, River, Rng};
@@ -57,6 +58,24 @@ fn compare_stock(wrong: &impl Telling, file: &[u8], board: &[u64]) -> Seen {
     (stock(file, board) != board::stock(wrong, file, board)).then_some("stock")
 }
 
+/// The short months of a right that is there, if there is one, and of some that are not.
+fn compare_short_months(
+    wrong: &impl Telling,
+    river: &River,
+    board: &[u64],
+    rng: &mut Rng,
+    calls: &mut usize,
+) -> Seen {
+    let rights = river.basin.rights.len();
+    let far = *rng.pick(&[MOST_RIGHTS - 1, MOST_RIGHTS, 1 << 16, 1 << 32, usize::MAX]);
+    let asked = [rng.below(rights.max(1)), rights, far];
+    asked.into_iter().find_map(|right| {
+        *calls += 1;
+        let told = short_months(wrong, &river.file, board, right);
+        (told != engine::short_months(&river.file, board, right)).then_some("short months")
+    })
+}
+
 /// Compares one month call; the board goes on as the right engine leaves it.
 fn compare_month(
     wrong: &impl Telling,
@@ -92,6 +111,7 @@ fn compare_river(wrong: &impl Telling, river: &River, rng: &mut Rng, calls: &mut
     compare_check(wrong, file)
         .or_else(|| compare_fresh(wrong, file, &board))
         .or_else(|| compare_stock(wrong, file, &board))
+        .or_else(|| compare_short_months(wrong, river, &board, rng, calls))
         .or_else(|| {
             fresh(file, &mut board);
             (0..30).find_map(|_| {
@@ -124,6 +144,7 @@ fn compare_possible_boards(
         let runoff = river.runoff(rng);
         compare_stock(wrong, &river.file, &board)
             .or_else(|| compare_month(wrong, &river.file, &runoff, &mut board, length))
+            .or_else(|| compare_short_months(wrong, river, &board, rng, calls))
     })
 }
 
@@ -143,17 +164,29 @@ fn compare_refused_calls(
         *calls += 2;
         let runoff = vec![u32::MAX; river.basin.stations.len()];
         let seen = compare_stock(wrong, file, &board)
+            .or_else(|| compare_short_months(wrong, river, &board, rng, calls))
             .or_else(|| compare_month(wrong, file, &runoff, &mut board, length));
         if seen.is_some() {
             return seen;
         }
     }
+    compare_wrong_lengths(wrong, river, rng, calls)
+}
+
+fn compare_wrong_lengths(
+    wrong: &impl Telling,
+    river: &River,
+    rng: &mut Rng,
+    calls: &mut usize,
+) -> Seen {
+    let (file, length) = (&river.file, river.basin.report_length());
     let rows = river.basin.stations.len();
     let lengths = [
         (rows + 1, BOARD, length),
         (rows - 1, BOARD, length),
         (rows, BOARD + 1, length),
         (rows, BOARD - 1, length),
+        (rows, SHORT, length),
         (rows, BOARD, length - 1),
         (rows, BOARD, length),
     ];
@@ -167,6 +200,15 @@ fn compare_refused_calls(
         let mut runoff = vec![over; runoffs];
         if rows > 1 && !runoff.is_empty() {
             runoff[0] = 0;
+        }
+        if boards != BOARD {
+            *calls += 2;
+            let seen = compare_fresh(wrong, file, &board)
+                .or_else(|| compare_stock(wrong, file, &board))
+                .or_else(|| compare_short_months(wrong, river, &board, rng, calls));
+            if seen.is_some() {
+                return seen;
+            }
         }
         compare_month(wrong, file, &runoff, &mut board, reports)
     })

@@ -1,8 +1,10 @@
-//! Board and report against what the tally keeps.
+//! Board, report and short months against what the tally keeps.
 
 use river_tests::engine::board::*;
 use river_tests::engine::report;
-use river_tests::engine::tally::{PastMonth, Tally};
+use river_tests::engine::short_months;
+use river_tests::engine::tally::{PastMonth, Reason, Tally};
+use river_tests::generate::{River, Rng};
 
 #[derive(Default)]
 pub struct Compared {
@@ -13,6 +15,52 @@ pub struct Compared {
     pub reasons: [usize; 4],
     /// Months in which water went deep.
     pub deep: usize,
+    /// Rights whose short months were asked for, by how many they were.
+    pub short_months: [usize; 13],
+}
+
+impl Compared {
+    /// How many times a right's short months were asked for.
+    pub fn asked(&self) -> usize {
+        self.short_months.iter().sum()
+    }
+}
+
+/// Where a list starts: on the fresh board, or on any that is possible.
+pub struct Start {
+    pub tally: Tally,
+    pub board: Vec<u64>,
+    pub fresh: bool,
+}
+
+impl Start {
+    pub fn of(river: &River, rng: &mut Rng, fresh: bool) -> Start {
+        if !fresh {
+            let board = river.possible_board(rng);
+            return Start { tally: Tally::on_board(&river.file, &board), board, fresh };
+        }
+        let mut board = vec![0; BOARD];
+        assert_eq!(river_tests::engine::fresh(&river.file, &mut board), (0, 0));
+        Start { tally: Tally::new(&river.file), board, fresh }
+    }
+}
+
+/// The short months of every right, and of one that is not there, by the call. From the fresh
+/// board on, the grants of the present water year are counted here once more: every twelfth
+/// month is a September, and its year is the present one until the next October.
+pub fn compare_short_months(river: &River, at: &Start, compared: &mut Compared) {
+    let rights = river.basin.rights.len();
+    let year = at.tally.months.chunks(12).next_back().unwrap_or(&[]);
+    for right in 0..rights {
+        let told = short_months(&river.file, &at.board, right);
+        assert_eq!(told, [0, 0, at.tally.short_months(right)], "right {right}");
+        if at.fresh {
+            let short = |past: &&PastMonth| past.grants[right].reason != Reason::NotShort;
+            assert_eq!(told[2], year.iter().filter(short).count() as u64, "right {right}");
+        }
+        compared.short_months[told[2] as usize] += 1;
+    }
+    assert_eq!(short_months(&river.file, &at.board, rights), [0, 0, 0]);
 }
 
 pub fn compare_board(tally: &Tally, board: &[u64]) {
@@ -29,6 +77,9 @@ pub fn compare_board(tally: &Tally, board: &[u64]) {
         for k in 1..=11 {
             expected[due(row, k)] = lags[k - 1] as u64;
         }
+    }
+    for place in 0..tally.taken.len() {
+        expected[SHORT + place] = tally.short_word(place);
     }
     assert_eq!(board, expected);
 }

@@ -1,20 +1,18 @@
-//! Lists of month calls and years' runs in any mix, some of them refused. To the tally an
-//! accepted run is its month calls (02, No. 4).
+//! Lists of month calls and years' runs in any mix, some of them refused, from the fresh
+//! board or another possible one. To the tally an accepted run is its month calls (02, No. 4).
 
-use super::compare::{compare_board, compare_report, Compared};
+use super::compare::{compare_board, compare_report, compare_short_months, Compared, Start};
 use river_tests::damage::broken_books;
-use river_tests::engine::board::BOARD;
 use river_tests::engine::book::{encode, WaterYear};
 use river_tests::engine::tally::Tally;
-use river_tests::engine::{fresh, month, run_year};
+use river_tests::engine::{month, run_year};
 use river_tests::generate::{any_listed, any_river, river_of, River, Rng, Size};
 
 /// One list, with the book that its years come from.
 struct List<'a> {
     river: &'a River,
     years: Vec<WaterYear>,
-    board: Vec<u64>,
-    tally: Tally,
+    at: Start,
 }
 
 /// Years' runs, beside what is compared of all calls.
@@ -28,19 +26,20 @@ struct Years {
 
 impl<'a> List<'a> {
     fn begin(rng: &mut Rng, river: &'a River) -> List<'a> {
-        let mut board = vec![0; BOARD];
-        assert_eq!(fresh(&river.file, &mut board), (0, 0));
-        List { years: river.any_book(rng), board, tally: Tally::new(&river.file), river }
+        let fresh = rng.chance(60);
+        List { years: river.any_book(rng), at: Start::of(river, rng, fresh), river }
     }
 
     fn month(&mut self, rng: &mut Rng, compared: &mut Compared) {
         let (file, runoff) = (&self.river.file, self.river.runoff(rng));
         let mut report = vec![77; self.river.basin.report_length()];
-        let answer = month(file, &runoff, &mut self.board, &mut report);
-        assert_eq!(self.tally.call(&runoff, report.len()), answer);
+        let Start { tally, board, .. } = &mut self.at;
+        let answer = month(file, &runoff, board, &mut report);
+        assert_eq!(tally.call(&runoff, report.len()), answer);
         assert_eq!(answer.0, 0);
-        compare_board(&self.tally, &self.board);
-        compare_report(&self.tally, self.tally.months.last().unwrap(), &report, compared);
+        compare_board(tally, board);
+        compare_report(tally, tally.months.last().unwrap(), &report, compared);
+        compare_short_months(self.river, &self.at, compared);
         compared.calls += 1;
     }
 
@@ -65,22 +64,24 @@ impl<'a> List<'a> {
 
     fn year(&mut self, rng: &mut Rng, compared: &mut Compared, years: &mut Years) {
         let (book, year, numbers) = self.ask(rng);
-        let (board_before, reports_before) = (self.board.clone(), vec![77; numbers]);
+        let (board_before, reports_before) = (self.at.board.clone(), vec![77; numbers]);
         let mut reports = reports_before.clone();
-        let answer = run_year(&self.river.file, &book, year, &mut self.board, &mut reports);
-        assert_eq!(self.tally.run_year(&book, year, numbers), answer);
+        let answer = run_year(&self.river.file, &book, year, &mut self.at.board, &mut reports);
+        assert_eq!(self.at.tally.run_year(&book, year, numbers), answer);
         years.numbers[answer.0 as usize] += 1;
-        compare_board(&self.tally, &self.board);
+        compare_short_months(self.river, &self.at, compared);
+        let Start { tally, board, .. } = &self.at;
+        compare_board(tally, board);
         if answer.0 != 0 {
-            assert_eq!(self.board, board_before, "a refused run changes nothing");
+            assert_eq!(*board, board_before, "a refused run changes nothing");
             assert_eq!(reports, reports_before, "a refused run changes nothing");
             compared.refused += 1;
             return;
         }
         let (calls, length) = (answer.1 as usize, self.river.basin.report_length());
-        let past = &self.tally.months[self.tally.months.len() - calls..];
+        let past = &tally.months[tally.months.len() - calls..];
         for (past, report) in past.iter().zip(reports.chunks(length)) {
-            compare_report(&self.tally, past, report, compared);
+            compare_report(tally, past, report, compared);
         }
         assert!(reports[length * calls..].iter().all(|&number| number == 77));
         years.runs[calls - 1] += 1;
@@ -108,14 +109,16 @@ fn compare_lists(seeds: std::ops::Range<u64>, size: Option<Size>, calls: usize) 
     }
     println!(
         "{} years' runs in lists of {} accepted month calls, {} with deep loss, {} refused, grants \
-         by reason {:?}",
+         by reason {:?}, {} rights asked for short months",
         years.numbers.iter().sum::<usize>(),
         compared.calls,
         compared.deep,
         compared.refused,
-        compared.reasons
+        compared.reasons,
+        compared.asked()
     );
     assert!(compared.reasons.iter().all(|&times| times > 100));
+    assert!(compared.short_months.iter().all(|&times| times > 100), "{:?}", compared.short_months);
     assert!(compared.deep > 1000);
     years
 }

@@ -1,10 +1,11 @@
 //! What a month call turns down of a sound file: refusals 6, 7 and 8, of which the lowest
 //! counts (01, Numbers for what is turned down).
 
-use crate::engine::board::{possible, BOARD, NOT_POSSIBLE, WRONG_LENGTH};
+use crate::engine::board::*;
 use crate::engine::check::{Judged, Refusal};
 use crate::engine::records::MOST_RUNOFF;
 use crate::engine::slip::{Slip, Telling};
+use crate::engine::Answer;
 
 pub fn judge_call<T: Telling>(
     telling: &T,
@@ -33,6 +34,14 @@ pub fn judge_call<T: Telling>(
         return Err(NOT_POSSIBLE);
     }
     judge_runoff(telling, runoff)
+}
+
+/// Only a slip touches the board of a refused call.
+pub fn refuse<T: Telling>(telling: &T, refusal: Refusal, board: &mut [u64]) -> Answer {
+    if telling.slips(Slip::RefusedOctoberClearsWords) && board.first() == Some(&0) {
+        board.iter_mut().skip(SHORT).for_each(|word| *word = 0);
+    }
+    refusal.answer()
 }
 
 /// Runoff over its limit is refused at the first row that has it.

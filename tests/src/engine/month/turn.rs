@@ -74,6 +74,7 @@ impl<T: Telling> Month<'_, T> {
             self.deep_loss += grant.total();
         }
         let short = self.is_short(right, &grant, demand);
+        self.keep_short(place, right, &grant, short);
         let (reason, station) = self.reason(right, short, callers, low_row);
         self.served_rows |= ((demand > 0) as u64) << row;
         if short {

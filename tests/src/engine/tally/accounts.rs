@@ -5,10 +5,11 @@ use super::{PastMonth, Tally};
 use crate::engine::records::*;
 
 impl Tally {
-    /// What came, by runoff and in the reservoirs at the start, is what left by the last
-    /// row, was consumed, evaporated, went deep, is on its way or is stored.
+    /// What came, by runoff and in what was stored or due at the start, is what left by the
+    /// last row, was consumed, evaporated, went deep, is on its way or is stored.
     pub(super) fn assert_water_sum(&self, basin: &Basin) {
-        let mut came: i128 = basin.reservoirs.iter().map(|r| r.start as i128).sum();
+        let mut came: i128 = self.start.storages.iter().sum();
+        came += self.start.dues.iter().flatten().sum::<i128>();
         let mut went: i128 = self.storages.iter().sum();
         went += self.pending(basin).iter().flatten().sum::<i128>();
         for month in &self.months {
@@ -28,8 +29,8 @@ impl Tally {
     /// A reservoir holds what it began with and what was stored, without what was
     /// released and what evaporated.
     pub(super) fn assert_reservoir_accounts(&self, basin: &Basin) {
-        for (lake, reservoir) in basin.reservoirs.iter().enumerate() {
-            let mut storage = reservoir.start as i128;
+        for lake in 0..basin.reservoirs.len() {
+            let mut storage = self.start.storages[lake];
             for month in &self.months {
                 storage -= month.evaporation[lake];
                 for (right, grant) in basin.rights.iter().zip(&month.grants) {
