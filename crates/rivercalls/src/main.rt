@@ -1,6 +1,6 @@
 // Calls fresh, month and stock on the October basin, with numbers that are turned down and then with good ones, and prints each answer; then
-// the same of years of a book. The good month and the good year come last, so they show that the calls before them changed nothing. Last
-// the same October by other patterns, with what goes deep.
+// the same of years of a book. The good month and the good year come last, so they show that the calls before them changed nothing. Then the
+// short months of October's rights over a year and a month; last the same October by other patterns, with what goes deep.
 ghost use Rattle.io.specs.Counts.{Counts};
 use crate::saying::say;
 use crate::saying::say_stock;
@@ -10,6 +10,7 @@ use places::board::BOARD_LENGTH;
 use places::board::MONTH;
 
 mod booked;
+mod counting;
 mod saying;
 mod seeping;
 
@@ -29,9 +30,9 @@ fn read_file(name: &[u8], buf: &mut [u8]) -> usize
 fn wrong_lengths(file: &[u8], board: &mut [u64], report: &mut [u64]) {
     let sheet = [2000u32, 700, 300, 0];
     let mut short = [0u64; BOARD_LENGTH - 1];
-    say(b"fresh, board of 969:", fresh(file, &mut short));
+    say(b"fresh, board of 1225:", fresh(file, &mut short));
     say(
-        b"month, board of 969:",
+        b"month, board of 1225:",
         month(file, &sheet[..3], &mut short, report),
     );
     say(
@@ -86,5 +87,6 @@ fn main() {
     let mut book = io::buffer();
     let k = read_file(b"october.book.bin", &mut book);
     call(&file[..n], &book[..k]);
+    counting::call(&file[..n], &book[..k]);
     seeping::call(&mut file[..n]);
 }
