@@ -1,7 +1,7 @@
 -- What a board may hold, read off the bodies. Assumes nothing.
-use Rattle.general.proofs.Search.{all-parts, all-same}
+use Rattle.general.proofs.Search.{all-make, all-at, all-parts, all-same}
 use mathlib.Core.Path.{_≡_, refl, sym, ap, _∙_}
-use mathlib.Core.Bool.{Bool}
+use mathlib.Core.Bool.{Bool, true}
 use mathlib.Core.List.{List}
 use Prim.Native.Nat.{ℕ, zero, suc, _+_, _-_, _*_, _^_, _≤_, _<_}
 use native.Mathlib.Nat.{pow-le-pow-right}
@@ -12,7 +12,7 @@ use lib.Dec.{leb, ltb}
 use lib.ListN.{length, getD}
 use Rattle.general.specs.Sums.{sumTo, only}
 use Rattle.general.specs.Tests.{_and_, allTo}
-use Rattle.general.proofs.Tests.{leb-yes, ltb-yes, ltb-no}
+use Rattle.general.proofs.Tests.{lt-of, leb-yes, ltb-yes, ltb-no}
 use Rattle.general.proofs.Tables.{tab-at, tab-past}
 use Rattle.rules.specs.Basin.{Reservoir, Right, Basin, noReservoir, noRight}
 use Rattle.rules.specs.Accepted.{Accepted}
@@ -22,7 +22,7 @@ use Rattle.sections.specs.File.{sectionOf}
 use Rattle.records.specs.Records.{rowsOf, reservoirCount, reservoirRecord, reservoirOf, reservoirsOf, rightCount, rightRecord, rightOf, rightsOf, basinOf, bodies}
 use Rattle.records.proofs.Rows.{rows-are}
 use Rattle.records.proofs.Decoded.{basin-bodies, reservoirs-are, rights-are}
-use Rattle.places.specs.Board.{monthAt, storageAt, marksAt, takenAt, dueAt, wordAt, takenPlace, duesOf, wordPlace, boardLength}
+use Rattle.places.specs.Board.{monthAt, storageAt, marksAt, takenAt, dueAt, wordAt, takenPlace, duesOf, duePlace, wordPlace, boardLength}
 use Rattle.boards.specs.Board.{possible, storageSum, dueSum}
 use Rattle.boards.specs.Bodies.{storageMost, takenMost, storagesOk, takenOk, duesOk, wordsOk, heldOk, rowOk, haveBits, Counted, Sized}
 
@@ -95,6 +95,17 @@ dues-parts n board h = sym (in-two n 64 _ h past ∙ (λ z. all-same n _ _ (λ w
 
     run : allTo (64 - n) (λ w. allTo 11 (λ k. ltb (getD board (duesOf n + 11 * w + k) 0) 1)) ≡ allTo (970 - duesOf n) (λ j. ltb (getD board (duesOf n + j) 0) 1)
     run = rows-run (λ p. ltb (getD board p 0) 1) (duesOf n) (64 - n) ∙ ap (λ (k : ℕ). allTo k (λ j. ltb (getD board (duesOf n + j) 0) 1)) (omega (arith, h))
+
+-- dues of 37 bits are all within what the past months can send
+pub rows-small : (n : ℕ) (board : List ℕ) → haveBits 37 board (duesOf 0) (duesOf n - duesOf 0) ≡ true → true ≡ allTo n (rowOk board)
+unfolding rowOk haveBits
+rows-small n board e = sym (all-make n _ (λ w h. all-make 11 _ (λ k l. leb-yes _ _ (within w k h l))))
+  where
+    within : (w k : ℕ) → w < n → k < 11 → dueAt board w (suc k) ≤ mostDue (suc k)
+    within w k h l =
+        let place : duesOf 0 + (11 * w + k) ≡ duePlace w k = omega arith in
+        let low = lt-of {m = getD board (duesOf 0 + (11 * w + k)) 0} {n = 2 ^ 37} (all-at (duesOf n - duesOf 0) _ e (11 * w + k) (omega (arith, h, l))) in
+        omega (arith, low, ap (λ (p : ℕ). getD board p 0) place)
 
 pub words-parts : (n : ℕ) (board : List ℕ) → n ≤ 256 → (haveBits 12 board (wordPlace 0) n and haveBits 0 board (wordPlace n) (256 - n)) ≡ wordsOk n board
 unfolding haveBits wordsOk

@@ -4,11 +4,12 @@ use mathlib.Core.Logic.{_≢_}
 use mathlib.Core.Bool.{Bool, true, false, not, _||_}
 use mathlib.Core.List.{List, [], _∷_}
 use mathlib.Core.Option.{Option, none, some}
-use Prim.Native.Nat.{ℕ, zero, suc, _+_, _≤_, _<_}
+use Prim.Native.Nat.{ℕ, zero, suc, _+_, _-_, _≤_, _<_}
+use native.Mathlib.Decide.{decLt}
 use native.Mathlib.Omega.{arith}
 use lib.Dec.{eqb}
 use Rattle.general.specs.Tests.{has, firstAt, firstFault, allTo, isSome, _and_}
-use Rattle.general.proofs.Tests.{absurd-bool, eqb-same, eqb-other, by-eqb, both-of, and-of, and-true, and-three}
+use Rattle.general.proofs.Tests.{absurd-bool, tests-same, eqb-same, eqb-other, by-eqb, both-of, and-of, and-true, and-three}
 
 -- ---- membership
 
@@ -105,6 +106,18 @@ all-parts n zero t = let e : n + 0 ≡ n = omega arith in ap (λ (k : ℕ). allT
 all-parts n (suc m) t =
     let e : n + suc m ≡ suc (n + m) = omega arith in
     ap (λ (k : ℕ). allTo k t) e ∙ ap (λ (x : Bool). x and t (n + m)) (all-parts n m t) ∙ and-three (allTo n t) (allTo m (λ j. t (n + j))) (t (n + m))
+
+-- the first m and the last m, where these are all of n, some of them twice
+pub all-twice : (m n : ℕ) (t : ℕ → Bool) → m ≤ n → n ≤ m + m → (allTo m t and allTo m (λ j. t (n - m + j))) ≡ allTo n t
+all-twice m n t h l = tests-same (allTo m t and allTo m (λ j. t (n - m + j))) (allTo n t)
+    (λ e. all-make n t (λ i o. one i o (decLt i m) (both-of e .0) (both-of e .1)))
+    (λ e. and-of (all-make m t (λ i o. all-at n t e i (omega arith))) (all-make m _ (λ j o. all-at n t e (n - m + j) (omega arith))))
+  where
+    one : (i : ℕ) → i < n → Dec (i < m) → allTo m t ≡ true → allTo m (λ j. t (n - m + j)) ≡ true → t i ≡ true
+    one i o (yes k) first last = all-at m t first i k
+    one i o (no k) first last =
+        let place : n - m + (i - (n - m)) ≡ i = omega arith in
+        ap t (sym place) ∙ all-at m (λ j. t (n - m + j)) last (i - (n - m)) (omega arith)
 
 pub all-same : (n : ℕ) (s t : ℕ → Bool) → ((i : ℕ) → i < n → s i ≡ t i) → allTo n s ≡ allTo n t
 unfolding allTo

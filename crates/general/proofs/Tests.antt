@@ -12,6 +12,12 @@ use Rattle.general.specs.Tests.{_and_, between}
 pub absurd-bool {ℓ} : {X : Type ℓ} {b : Bool} → b ≡ true → b ≡ false → X
 absurd-bool p q = absurd (let z : _≡_ {A = ℕ} 0 1 = cc in omega arith)
 
+-- two tests that pass together
+pub tests-same : (a b : Bool) → (a ≡ true → b ≡ true) → (b ≡ true → a ≡ true) → a ≡ b
+tests-same true b f g = sym (f refl)
+tests-same false true f g = g refl
+tests-same false false f g = refl
+
 pub true-of : {b : Bool} → T b → b ≡ true
 true-of {b = true} t = refl
 true-of {b = false} t = absurd t

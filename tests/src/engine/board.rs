@@ -57,8 +57,14 @@ pub fn possible<T: Telling>(telling: &T, basin: &Judged, board: &[u64]) -> bool 
         && words_fit(telling, board, rights)
 }
 
+/// All numbers joined by `or`: all are gone through, without a branch at each, since most of a
+/// small basin's board are places that it does not use.
+fn union(places: &[u64]) -> u64 {
+    places.iter().fold(0, |bits, number| bits | number)
+}
+
 fn all_zero(places: &[u64]) -> bool {
-    places.iter().all(|&number| number == 0)
+    union(places) == 0
 }
 
 fn storages_fit<T: Telling>(telling: &T, basin: &Judged, board: &[u64]) -> bool {
@@ -91,9 +97,8 @@ fn dues_fit<T: Telling>(telling: &T, dues: &[u64]) -> bool {
 
 /// Of the words that are there nothing stands above the bit of September, and of the others
 /// nothing at all (02, No. 6). Any months may be told, those that are still to be run among
-/// them. All are gone through, without a branch at each.
+/// them.
 fn words_fit<T: Telling>(telling: &T, board: &[u64], rights: usize) -> bool {
-    let union = |words: &[u64]| words.iter().fold(0, |bits, word| bits | word);
     let (words, others) = board[SHORT..].split_at(rights);
     let mut all = union(words);
     if telling.slips(Slip::BoardShortLowHalfOnly) {
@@ -109,7 +114,7 @@ fn words_fit<T: Telling>(telling: &T, board: &[u64], rights: usize) -> bool {
         MONTHS as u64
     };
     (all >> bits == 0 || telling.slips(Slip::BoardShortAny))
-        && (union(others) == 0 || telling.slips(Slip::BoardShortOfNoRight))
+        && (all_zero(others) || telling.slips(Slip::BoardShortOfNoRight))
 }
 
 /// The board on which a basin begins: the reservoirs hold what the file says, nothing is

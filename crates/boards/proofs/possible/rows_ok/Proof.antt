@@ -1,53 +1,40 @@
--- `boards::possible::rows_ok` meets its contract. The loop's invariant: all rows passed are possible. Assumes nothing.
-use mathlib.Core.Bool.{Bool}
-use mathlib.Core.Path.{_≡_, ap, _∙_}
-use Prim.Native.Nat.{ℕ, _-_, _≤_}
-use native.Mathlib.Omega.{arith}
+-- `boards::possible::rows_ok` meets its contract. Assumes nothing.
+use mathlib.Core.Bool.{true}
+use mathlib.Core.List.{List}
+use mathlib.Core.Path.{_≡_, sym, ap, _∙_}
+use Prim.Native.Nat.{ℕ, _-_, _^_, _<_}
 use borrow.Author.Needs.{needs}
 use denote.Ref.{now}
-use Rattle.general.proofs.Loops.{all-none, all-more}
-use Rattle.general.specs.Tests.{_and_, allTo}
-use Rattle.boards.specs.Bodies.{rowOk}
+use lib.Dec.{ltb}
+use Rattle.general.proofs.Tests.{ltb-yes}
+use Rattle.general.specs.Tests.{allTo}
+use Rattle.places.specs.Board.{duesOf}
+use Rattle.boards.specs.Bodies.{rowOk, haveBits}
+use Rattle.boards.proofs.Bodies.{rows-small}
 use Rattle.boards.proofs.possible.rows_ok.Statement.{statement}
 use Rattle.boards.proofs.possible.rows_ok.Tie as tie
 
-abbrev Inv-loop : tie.InvT-loop
-Inv-loop n board all₀ w₀ all w = (w ≤ n) × (all ≡ allTo w (rowOk board))
+-- what is joined is small
+small : (n : ℕ) (board : List ℕ) (p x : ℕ) → p ≡ duesOf n → ((k : ℕ) → ltb x (2 ^ k) ≡ haveBits k board 266 (p - 266)) → x < 137438953472 → true ≡ allTo n (rowOk board)
+small n board p x ep ex h = rows-small n board (ap (λ (q : ℕ). haveBits 37 board 266 (q - 266)) (sym ep) ∙ sym (ex 37) ∙ ltb-yes x (2 ^ 37) h)
 
-abbrev μ-loop : tie.MeasureT-loop
-μ-loop n board all₀ w₀ all w = n - w
+dues-of-requires : tie.Need-dues-of-requires
+dues-of-requires c κs = search needs
 
-loop-holds : tie.Need-loop-holds Inv-loop μ-loop
-loop-holds c = (search needs, all-none _)
+joined-requires : tie.Need-joined-requires
+joined-requires c κs = search needs
 
-row-ok-requires : tie.Need-row-ok-requires Inv-loop μ-loop
-row-ok-requires c κs = search needs
+returns : tie.Need-returns
+returns c =
+    let s = c .before .before .before .before .args in
+    small (s .n) (now (s .board)) (c .before .before .dues-of .result) (c .before .joined .result) (c .before .before .dues-of .ensures) (c .before .joined .ensures) (c .if1 .taken)
 
-both-requires : tie.Need-both-requires Inv-loop μ-loop
-both-requires c κs = search needs
+each-row-ok-requires : tie.Need-each-row-ok-requires
+each-row-ok-requires c κs = search needs
 
-add-w : tie.Need-add-w Inv-loop μ-loop
-add-w c = search needs
-
-loop-less : tie.Need-loop-less Inv-loop μ-loop
-loop-less c = search needs
-
-loop-again : tie.Need-loop-again Inv-loop μ-loop
-loop-again c = (omega arith, all-more (rowOk (now (c .before .before .before .before .before .args .board))) (c .before .before .before .loop .w) _ _ (c .before .before .before .loop .inv .1) (c .both .ensures ∙ ap (λ (x : Bool). c .before .before .before .loop .all and x) (c .before .row-ok .ensures)))
-
-returns : tie.Need-returns Inv-loop μ-loop
-returns c = c .before .loop .inv .1 ∙ ap (λ (k : ℕ). allTo k (rowOk (now (c .before .before .before .args .board)))) (omega arith)
+returns-2 : tie.Need-returns-2
+returns-2 c = search needs
 
 pub rows-ok-spec : {M : Type 1} → statement M
 rows-ok-spec =
-    tie.close
-    (tie.spec
-    Inv-loop
-    μ-loop
-    loop-holds
-    row-ok-requires
-    both-requires
-    add-w
-    loop-less
-    loop-again
-    returns)
+    tie.close (tie.spec dues-of-requires joined-requires returns each-row-ok-requires returns-2)
