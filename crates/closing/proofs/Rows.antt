@@ -13,7 +13,7 @@ use Rattle.places.specs.Report.{flowPlace, availablePlace, rowsEnd, deepPlace}
 use Rattle.rules.specs.Month.{nextMonth}
 use Rattle.records.specs.Records.{reservoirCount}
 use Rattle.closing.specs.Losses.{Lost}
-use Rattle.closing.specs.Noting.{WordsNoted}
+use Rattle.closing.specs.Noting.{reasonsIn, WordsNoted}
 use Rattle.closing.specs.Closing.{CanTell, RowsTold, Ended}
 
 module _ (n h : ℕ) (f a rp : List ℕ) (c : CanTell n h rp) where
@@ -71,9 +71,10 @@ module _ (n h : ℕ) (f a rp : List ℕ) (c : CanTell n h rp) where
 
 -- ---- the end of a month, by what its steps promise
 
-pub ended-of : (rs : List ℕ) (n h : ℕ) (f a : List ℕ) (deep : ℕ) (bd rp noted told lowered lost : List ℕ) (m x : ℕ) {at last : ℕ} → WordsNoted (monthAt bd) n rp bd noted → RowsTold n h f a rp told → m ≡ monthAt bd → at ≡ rowsEnd n h
-    → Lost rs m (reservoirCount rs) noted told at lowered lost → last ≡ deepPlace n h (reservoirCount rs) → x ≡ nextMonth (monthAt bd) → Ended rs n h f a deep bd rp (set lowered monthPlace x) (set lost last deep)
-ended-of rs n h f a deep bd rp noted told lowered lost m x w r e q l d g = record {
+pub ended-of : (rs : List ℕ) (n h : ℕ) (f a : List ℕ) (deep : ℕ) (bd rp noted told lowered lost : List ℕ) (m x s : ℕ) {at last : ℕ} → s ≡ reasonsIn n rp → WordsNoted (monthAt bd) n rp bd noted → RowsTold n h f a rp told → m ≡ monthAt bd → at ≡ rowsEnd n h
+    → Lost rs m (reservoirCount rs) noted told at lowered lost → last ≡ deepPlace n h (reservoirCount rs) → x ≡ nextMonth (monthAt bd) → Ended rs n h f a deep bd rp (set lowered monthPlace x) (set lost last deep) s
+ended-of rs n h f a deep bd rp noted told lowered lost m x s k w r e q l d g = record {
+  counted = k;
   noted = noted;
   words-noted = w;
   told = told;

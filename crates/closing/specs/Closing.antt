@@ -8,7 +8,7 @@ use Rattle.places.specs.Report.{linesEnd, flowPlace, availablePlace, rowsEnd, d
 use Rattle.rules.specs.Month.{nextMonth}
 use Rattle.records.specs.Records.{reservoirCount}
 use Rattle.closing.specs.Losses.{Lost}
-use Rattle.closing.specs.Noting.{WordsNoted}
+use Rattle.closing.specs.Noting.{reasonsIn, WordsNoted}
 
 -- ---- flow and available flow of the rows, told in the report
 
@@ -35,7 +35,8 @@ pub record CanEnd (rs : List ℕ) (n h : ℕ) (bd rp : List ℕ) : Type 0 where
   pub words : (i : ℕ) → i < n → wordAt bd i < 4096
   pub places : reportEnd n h (reservoirCount rs) ≤ length rp
 
-pub record Ended (rs : List ℕ) (n h : ℕ) (f a : List ℕ) (deep : ℕ) (bd rp bd′ rp′ : List ℕ) : Type 0 where
+pub record Ended (rs : List ℕ) (n h : ℕ) (f a : List ℕ) (deep : ℕ) (bd rp bd′ rp′ : List ℕ) (shorts : ℕ) : Type 0 where
+  pub counted : shorts ≡ reasonsIn n rp
   pub noted : List ℕ
   pub words-noted : WordsNoted (monthAt bd) n rp bd noted
   pub told : List ℕ

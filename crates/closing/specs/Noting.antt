@@ -5,6 +5,7 @@ use mathlib.Core.Path.{_≡_}
 use Prim.Native.Nat.{ℕ, _≤_, _<_}
 use lib.Dec.{eqb}
 use lib.ListN.{length, getD}
+use Rattle.general.specs.Sums.{sumTo, only}
 use Rattle.general.specs.Tests.{withBit}
 use Rattle.places.specs.Board.{wordsFrom, wordPlace, boardLength, wordAt}
 use Rattle.places.specs.Report.{reasonPlace, linesEnd}
@@ -12,6 +13,10 @@ use Rattle.places.specs.Report.{reasonPlace, linesEnd}
 -- whether the report has a reason for right i
 abbrev pub hasReason : List ℕ → ℕ → Bool
 hasReason rp i = not (eqb (getD rp (reasonPlace i) 0) 0)
+
+-- how many of n rights it has one for
+unfoldable pub reasonsIn : ℕ → List ℕ → ℕ
+reasonsIn n rp = sumTo n (λ i. only (hasReason rp i) 1)
 
 pub record CanNote (n m : ℕ) (bd rp : List ℕ) : Type 0 where
   pub few : n ≤ 256

@@ -45,7 +45,7 @@ pub fn in_year(m: u64) -> usize
     m as usize
 }
 
-// The end of a month in a basin of n rights, of whose returns so much went deep.
+// The end of a month in a basin of n rights, of whose returns so much went deep. Answers how many rights are short.
 pub fn end(
     reservoirs: &[u8],
     n: usize,
@@ -55,14 +55,15 @@ pub fn end(
     deep: u64,
     board: &mut [u64],
     report: &mut [u64],
-)
+) -> usize
     requires { ⌜ CanEnd (now reservoirs) n rows (now board) (now report) ⌝ }
-    ensures { λ _. ⌜ Ended (now (reservoirs .entry)) n rows (now (flow .entry)) (now (available .entry)) deep (now (board .entry)) (now (report .entry)) (now (board .exit)) (now (report .exit)) ⌝ }
+    ensures { λ r. ⌜ Ended (now (reservoirs .entry)) n rows (now (flow .entry)) (now (available .entry)) deep (now (board .entry)) (now (report .entry)) (now (board .exit)) (now (report .exit)) r ⌝ }
 {
     let m = board[MONTH];
-    note_shorts(n, m, board, report);
+    let shorts = note_shorts(n, m, board, report);
     put_rows(n, rows, flow, available, report);
     evaporate(reservoirs, in_year(m), board, report, rows_end(n, rows));
     report[deep_place(n, rows, reservoirs.len() / 68)] = deep;
     board[MONTH] = next_month(m);
+    shorts
 }

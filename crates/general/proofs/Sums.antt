@@ -76,6 +76,12 @@ sumTo-list [] = refl
 sumTo-list (x ∷ xs) = sumTo-front (length xs) (λ i. getD (x ∷ xs) i 0) ∙ omega (arith, sumTo-list xs)
 
 -- the first k numbers of a list
+-- a list of which one part is read, place by place
+pub sumTo-over : {A B : Type 0} (g : A → B) (d : B) (f : B → ℕ) (l : List A) → sumTo (length l) (λ i. f (getD (map g l) i d)) ≡ sumOver (λ x. f (g x)) l
+unfolding sumTo sumOver
+sumTo-over g d f [] = refl
+sumTo-over g d f (x ∷ l) = sumTo-front (length l) (λ i. f (getD (map g (x ∷ l)) i d)) ∙ ap (λ (s : ℕ). f (g x) + s) (sumTo-over g d f l)
+
 pub upTo-le : (l : List ℕ) (k : ℕ) → upTo l k ≤ sum l
 unfolding sumTo sumOver
 upTo-le [] k = omega (arith, none k)

@@ -16,7 +16,6 @@ use Rattle.rules.specs.Basin.{Basin, rows, reservoirAt}
 use Rattle.rules.specs.Turn.{State}
 use Rattle.rules.specs.Month.{MonthRun, opening, returnsAt, evaporation, evaporations, evaporated, nextMonth, month}
 use Rattle.records.specs.Records.{reservoirCount}
-use Rattle.turns.specs.declared.lines.Totals.{Totals}
 use Rattle.turns.specs.Lines.{turnsFrom, Served}
 use Rattle.closing.specs.Losses.{lossIn, Lost}
 use Rattle.closing.specs.Noting.{WordsNoted}
@@ -36,7 +35,7 @@ use Rattle.month.proofs.Words.{word-told}
 
 module _ (b : Basin) (st t rs : List ℕ) (pa : List (List ℕ)) (ri : List ℕ) (w : Setting b st t rs pa ri) (runoff bd : List ℕ) (can : possible b bd ≡ true)
     (f a : List ℕ) (sh : List Bool) (start : stateOf b f a sh (opened bd) ≡ opening b (carriedOf b bd) runoff (tab (rows b) (λ u. dueAt bd u 1))) (m : ℕ) (em : m ≡ monthAt bd)
-    (rp f₂ a₂ : List ℕ) (sh₂ : List Bool) (bd₂ rp₁ : List ℕ) (c : Totals) (q : Served b m f a sh (opened bd) rp f₂ a₂ sh₂ bd₂ rp₁ c) where
+    (rp f₂ a₂ : List ℕ) (sh₂ : List Bool) (bd₂ rp₁ : List ℕ) (c : ℕ) (q : Served b m f a sh (opened bd) rp f₂ a₂ sh₂ bd₂ rp₁ c) where
   abbrev h : MonthRun
   h = runOf b runoff bd
 

@@ -13,11 +13,10 @@ use Rattle.general.proofs.Tables.{tab-at}
 use Rattle.rules.specs.Basin.{Basin, rows}
 use Rattle.rules.specs.River.{Level, levelAt, dry}
 use Rattle.rules.specs.Turn.{State, Turn}
-use Rattle.rules.specs.Month.{MonthRun, opening, deepOf, shortCount}
+use Rattle.rules.specs.Month.{MonthRun, opening, deepOf}
 use Rattle.rules.specs.Tally.{reportLength}
 use Rattle.records.specs.Records.{reservoirCount}
 use Rattle.river.specs.Arrays.{rowLevel, levelsOf}
-use Rattle.turns.specs.declared.lines.Totals.{Totals}
 use Rattle.turns.specs.Lines.{LinesTo, turnsFrom, Served}
 use Rattle.closing.specs.Losses.{lossIn, Lost}
 use Rattle.turns.specs.State.{stateOf, Setting}
@@ -37,7 +36,7 @@ use Rattle.month.proofs.Closing.{loss-is}
 
 module _ (b : Basin) (st t rs : List ℕ) (pa : List (List ℕ)) (ri : List ℕ) (w : Setting b st t rs pa ri) (runoff bd : List ℕ) (can : possible b bd ≡ true)
     (f a : List ℕ) (sh : List Bool) (start : stateOf b f a sh (opened bd) ≡ opening b (carriedOf b bd) runoff (tab (rows b) (λ u. dueAt bd u 1))) (m : ℕ) (em : m ≡ monthAt bd)
-    (rp f₂ a₂ : List ℕ) (sh₂ : List Bool) (bd₂ rp₁ : List ℕ) (c : Totals) (q : Served b m f a sh (opened bd) rp f₂ a₂ sh₂ bd₂ rp₁ c) where
+    (rp f₂ a₂ : List ℕ) (sh₂ : List Bool) (bd₂ rp₁ : List ℕ) (c : ℕ) (q : Served b m f a sh (opened bd) rp f₂ a₂ sh₂ bd₂ rp₁ c) where
   abbrev h : MonthRun
   h = runOf b runoff bd
 
@@ -54,12 +53,9 @@ module _ (b : Basin) (st t rs : List ℕ) (pa : List (List ℕ)) (ri : List ℕ)
   unfolding stateOf levelsOf
   level-is u o = ap (λ (s : State). levelAt (s .levels) u) (sym (closed-is b st t rs pa ri w runoff bd can f a sh start m em rp f₂ a₂ sh₂ bd₂ rp₁ c q)) ∙ tab-at (rowLevel f₂ a₂) (rows b) u dry o
 
-  pub shorts-left : c .shorts ≡ shortCount (h .turns)
-  shorts-left = q .shorts ∙ ap shortCount turns-same
-
   -- rp₂ once the rows are told, rp₃ once the losses are, rp₄ once what went deep is: each behind what was told before it
   module _ (room : reportLength b ≤ length rp) (rp₂ : List ℕ) (r : RowsTold n (rows b) f₂ a₂ rp₁ rp₂) (noted : List ℕ) (same : (v : ℕ) → v < 8 → storageAt noted v ≡ storageAt bd₂ v) (bd₃ rp₃ : List ℕ) (l : Lost rs m (reservoirCount rs) noted rp₂ (rowsEnd n (rows b)) bd₃ rp₃)
-      (rp₄ : List ℕ) (e : rp₄ ≡ set rp₃ (deepPlace n (rows b) (reservoirCount rs)) (c .deep)) where
+      (rp₄ : List ℕ) (e : rp₄ ≡ set rp₃ (deepPlace n (rows b) (reservoirCount rs)) c) where
     abbrev last : ℕ
     last = deepPlace n (rows b) (reservoirCount rs)
 
@@ -67,7 +63,7 @@ module _ (b : Basin) (st t rs : List ℕ) (pa : List (List ℕ)) (ri : List ℕ)
     size-kept = l .report-size ∙ r .size ∙ lines .size
 
     aside : (p : ℕ) → p ≢ last → getD rp₄ p 0 ≡ getD rp₃ p 0
-    aside p o = ap (λ (x : List ℕ). getD x p 0) e ∙ getD-set-other rp₃ last p (c .deep) 0 o
+    aside p o = ap (λ (x : List ℕ). getD x p 0) e ∙ getD-set-other rp₃ last p c 0 o
 
     front : (p : ℕ) → p < linesEnd n → getD rp₄ p 0 ≡ getD rp₁ p 0
     front p o = aside p (λ x. omega (arith, x, o)) ∙ l .report-front p (omega (arith, o)) ∙ r .front p o
@@ -88,8 +84,8 @@ module _ (b : Basin) (st t rs : List ℕ) (pa : List (List ℕ)) (ri : List ℕ)
     deep-told =
         ap (λ (v : ℕ). getD rp₄ (deepPlace n (rows b) v) 0) (reservoirs-count w)
         ∙ ap (λ (x : List ℕ). getD x last 0) e
-        ∙ getD-set-same rp₃ last (c .deep) 0 (omega (arith, room, size-kept, reservoirs-count w))
-        ∙ q .deep ∙ ap (deepOf b) turns-same
+        ∙ getD-set-same rp₃ last c 0 (omega (arith, room, size-kept, reservoirs-count w))
+        ∙ q .lost ∙ ap (deepOf b) turns-same
 
     beyond-kept : (p : ℕ) → reportLength b ≤ p → getD rp₄ p 0 ≡ getD rp p 0
     beyond-kept p o =
@@ -98,7 +94,7 @@ module _ (b : Basin) (st t rs : List ℕ) (pa : List (List ℕ)) (ri : List ℕ)
 
     pub report-left : rp₄ ≡ reportOf b h rp
     report-left = report-by-parts b h rp room rp₄ (record {
-      size = ap (λ (x : List ℕ). length x) e ∙ length-set rp₃ last (c .deep) ∙ size-kept;
+      size = ap (λ (x : List ℕ). length x) e ∙ length-set rp₃ last c ∙ size-kept;
       river = λ i o. front (fromRiverPlace i) (omega (arith, o)) ∙ lines .from-river i o;
       storage = λ i o. front (fromStoragePlace i) (omega (arith, o)) ∙ lines .from-storage i o;
       reason = λ i o. front (reasonPlace i) (omega (arith, o)) ∙ lines .reason i o;

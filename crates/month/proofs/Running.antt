@@ -18,7 +18,6 @@ use Rattle.rules.specs.Month.{opening, nextMonth}
 use Rattle.rules.specs.Theorems.{mostDue}
 use Rattle.records.specs.Records.{rowsOf, stationsOf, reservoirCount, rightCount, patternCount, patternOf, patternsOf, bodies}
 use Rattle.records.specs.Table.{tableOf, sumsOf, sixteenSums}
-use Rattle.turns.specs.declared.lines.Totals.{Totals}
 use Rattle.turns.specs.Lines.{CanServe, Served}
 use Rattle.closing.specs.Losses.{Lost}
 use Rattle.closing.specs.Noting.{WordsNoted}
@@ -36,9 +35,9 @@ use Rattle.records.proofs.Decoded.{patterns-are, pattern-is, bodies-rows, bodie
 use Rattle.boards.proofs.Bodies.{marks-small}
 use Rattle.month.proofs.Opened.{opened, opened-length, opened-month, opened-storage, opened-marks, opened-taken, opened-due, opened-short, state-opened}
 use Rattle.boards.proofs.Bounds.{month-most, storage-most, marks-most, taken-most, due-most, word-small, no-due, capacity-most, limit-most}
-use Rattle.month.proofs.Words.{word-fits}
+use Rattle.month.proofs.Words.{shorts-told, word-fits}
 use Rattle.month.proofs.Closing.{board-left}
-use Rattle.month.proofs.Reporting.{report-left, shorts-left}
+use Rattle.month.proofs.Reporting.{report-left}
 
 -- the sums of the file's patterns are the first of the sixteen
 sixteen : (ps : List ℕ) (k : ℕ) → k < length (patternsOf ps) → getD (sixteenSums ps) k [] ≡ sumsOf (getD (patternsOf ps) k [])
@@ -195,7 +194,7 @@ module _ (st rs ps ri runoff bd rp : List ℕ) (c : CanRun st rs ps ri runoff bd
     start : stateOf b f a sh (opened bd) ≡ opening b (carriedOf b bd) runoff (tab (rows b) (λ u. dueAt bd u 1))
     start = state-opened bd b (c .accepted) f a sh runoff (tab (rows b) (λ u. dueAt bd u 1)) (opening-is b t (setting .table) (c .accepted .few-rows) runoff bd (c .sheet) f a g) none
 
-    module _ (f₂ a₂ : List ℕ) (sh₂ : List Bool) (bd₂ rp₁ : List ℕ) (k : Totals) (q₁ : Served b m f a sh bd₁ rp f₂ a₂ sh₂ bd₂ rp₁ k) where
+    module _ (f₂ a₂ : List ℕ) (sh₂ : List Bool) (bd₂ rp₁ : List ℕ) (k : ℕ) (q₁ : Served b m f a sh bd₁ rp f₂ a₂ sh₂ bd₂ rp₁ k) where
       q : Served b m f a sh (opened bd) rp f₂ a₂ sh₂ bd₂ rp₁ k
       q = subst (λ (x : List ℕ). Served b m f a sh x rp f₂ a₂ sh₂ bd₂ rp₁ k) e₁ q₁
 
@@ -217,12 +216,12 @@ module _ (st rs ps ri runoff bd rp : List ℕ) (c : CanRun st rs ps ri runoff bd
       }
 
       -- the counts by the basin
-      ended : (bd₄ rp₄ : List ℕ) → Ended rs (rightCount ri) (rowsOf st) f₂ a₂ (k .deep) bd₂ rp₁ bd₄ rp₄ → Ended rs (length (b .rights)) (rows b) f₂ a₂ (k .deep) bd₂ rp₁ bd₄ rp₄
-      ended bd₄ rp₄ z = rw (bodies-rights st rs ps ri, bodies-rows st rs ps ri) z
+      ended : (bd₄ rp₄ : List ℕ) (x : ℕ) → Ended rs (rightCount ri) (rowsOf st) f₂ a₂ k bd₂ rp₁ bd₄ rp₄ x → Ended rs (length (b .rights)) (rows b) f₂ a₂ k bd₂ rp₁ bd₄ rp₄ x
+      ended bd₄ rp₄ x z = rw (bodies-rights st rs ps ri, bodies-rows st rs ps ri) z
 
-      pub ran : (bd₄ rp₄ : List ℕ) → Ended rs (rightCount ri) (rowsOf st) f₂ a₂ (k .deep) bd₂ rp₁ bd₄ rp₄ → Ran b runoff bd rp bd₄ rp₄ (k .shorts)
-      ran bd₄ rp₄ x =
-          let z = ended bd₄ rp₄ x in
+      pub ran : (bd₄ rp₄ : List ℕ) (shorts : ℕ) → Ended rs (rightCount ri) (rowsOf st) f₂ a₂ k bd₂ rp₁ bd₄ rp₄ shorts → Ran b runoff bd rp bd₄ rp₄ shorts
+      ran bd₄ rp₄ shorts x =
+          let z = ended bd₄ rp₄ shorts x in
           let at : ℕ = rowsEnd (length (b .rights)) (rows b) in
           let rp₃ : List ℕ = z .losses-told in
           let e : WordsNoted m (length (b .rights)) rp₁ bd₂ (z .noted) = subst (λ (y : ℕ). WordsNoted y (length (b .rights)) rp₁ bd₂ (z .noted)) month₂ (z .words-noted) in
@@ -230,5 +229,5 @@ module _ (st rs ps ri runoff bd rp : List ℕ) (c : CanRun st rs ps ri runoff bd
           record {
             board = board-left b st t rs pa ri setting runoff bd (c .can) f a sh start m month-is rp f₂ a₂ sh₂ bd₂ rp₁ k q (z .noted) e (z .told) at (z .lowered) rp₃ l bd₄ (z .gone-on ∙ ap (λ (y : ℕ). set (z .lowered) monthPlace (nextMonth y)) month₂);
             report = report-left b st t rs pa ri setting runoff bd (c .can) f a sh start m month-is rp f₂ a₂ sh₂ bd₂ rp₁ k q (c .room) (z .told) (z .rows-told) (z .noted) (λ v o. e .front (storagePlace v) (omega arith)) (z .lowered) rp₃ l rp₄ (z .deep-told);
-            shorts = shorts-left b st t rs pa ri setting runoff bd (c .can) f a sh start m month-is rp f₂ a₂ sh₂ bd₂ rp₁ k q;
+            shorts = z .counted ∙ shorts-told b st t rs pa ri setting runoff bd (c .can) f a sh start m month-is rp f₂ a₂ sh₂ bd₂ rp₁ k q;
           }

@@ -14,7 +14,6 @@ use Rattle.rules.specs.Returns.{Part, partsOf, lagged, returnedAt}
 use Rattle.rules.specs.Turn.{State, granted, turn}
 use Rattle.rules.specs.Month.{MonthRun, opening, turns, afterTurns, returnedBy, returnsAt, month}
 use Rattle.rules.proofs.Splits.{PartsIn, parts-in}
-use Rattle.turns.specs.declared.lines.Totals.{Totals}
 use Rattle.turns.specs.Lines.{turnsFrom, Served}
 use Rattle.places.specs.Board.{monthAt, dueAt}
 use Rattle.turns.specs.State.{stateOf, Setting}
@@ -42,7 +41,7 @@ returns-beyond b m i (r ∷ rs) s w k h l = omega (
 
 module _ (b : Basin) (st t rs : List ℕ) (pa : List (List ℕ)) (ri : List ℕ) (w : Setting b st t rs pa ri) (runoff bd : List ℕ) (can : possible b bd ≡ true)
     (f a : List ℕ) (sh : List Bool) (start : stateOf b f a sh (opened bd) ≡ opening b (carriedOf b bd) runoff (tab (rows b) (λ u. dueAt bd u 1))) (m : ℕ) (em : m ≡ monthAt bd)
-    (rp f₂ a₂ : List ℕ) (sh₂ : List Bool) (bd₂ rp₁ : List ℕ) (c : Totals) (q : Served b m f a sh (opened bd) rp f₂ a₂ sh₂ bd₂ rp₁ c) where
+    (rp f₂ a₂ : List ℕ) (sh₂ : List Bool) (bd₂ rp₁ : List ℕ) (c : ℕ) (q : Served b m f a sh (opened bd) rp f₂ a₂ sh₂ bd₂ rp₁ c) where
   abbrev h : MonthRun
   h = runOf b runoff bd
 

@@ -7,15 +7,17 @@ use native.Mathlib.Decide.{decLt}
 use native.Mathlib.Omega.{arith}
 use lib.Dec.{eqb}
 use lib.ListN.{length, getD, set, replicate, getD-replicate, length-replicate}
+use Rattle.general.specs.Sums.{sumTo, only}
 use Rattle.general.specs.Tables.{tab}
 use Rattle.general.specs.Tests.{bit, withBit}
 use Rattle.general.proofs.Bits.{bit-none}
 use Rattle.general.proofs.Lists.{getD-falses}
+use Rattle.general.proofs.Sums.{sumTo-same, sumTo-over}
 use Rattle.general.proofs.Tables.{tab-at, tab-past, tab-of}
 use Rattle.rules.specs.Basin.{Basin, rows}
-use Rattle.rules.specs.Turn.{Turn}
-use Rattle.rules.specs.Month.{MonthRun, reasonNumber, grantAt, isShort, openingShorts, noted, opening, month}
-use Rattle.turns.specs.declared.lines.Totals.{Totals}
+use Rattle.rules.specs.Turn.{Grant, Turn}
+use Rattle.rules.specs.Month.{MonthRun, noGrant, grantAt, reasonNumber, isShort, openingShorts, noted, opening, month, shortCount}
+use Rattle.rules.proofs.Months.{turns-length}
 use Rattle.turns.specs.Lines.{Served}
 use Rattle.turns.specs.State.{stateOf, Setting}
 use Rattle.places.specs.Board.{duePlace, wordPlace, monthAt, dueAt, wordAt}
@@ -23,14 +25,14 @@ use Rattle.places.proofs.BoardPlaces.{word-as-due, place-read}
 use Rattle.boards.specs.Board.{carriedOf, wordOf, possible}
 use Rattle.boards.proofs.Board.{word-none, word-put}
 use Rattle.boards.proofs.Bounds.{month-most, word-small, no-word}
-use Rattle.closing.specs.Noting.{hasReason, WordsNoted}
+use Rattle.closing.specs.Noting.{hasReason, reasonsIn, WordsNoted}
 use Rattle.month.specs.Month.{runOf}
 use Rattle.month.proofs.Opened.{opened, opened-short}
 use Rattle.month.proofs.Turned.{returns-beyond, turns-are}
 
 module _ (b : Basin) (st t rs : List ℕ) (pa : List (List ℕ)) (ri : List ℕ) (w : Setting b st t rs pa ri) (runoff bd : List ℕ) (can : possible b bd ≡ true)
     (f a : List ℕ) (sh : List Bool) (start : stateOf b f a sh (opened bd) ≡ opening b (carriedOf b bd) runoff (tab (rows b) (λ u. dueAt bd u 1))) (m : ℕ) (em : m ≡ monthAt bd)
-    (rp f₂ a₂ : List ℕ) (sh₂ : List Bool) (bd₂ rp₁ : List ℕ) (c : Totals) (q : Served b m f a sh (opened bd) rp f₂ a₂ sh₂ bd₂ rp₁ c) where
+    (rp f₂ a₂ : List ℕ) (sh₂ : List Bool) (bd₂ rp₁ : List ℕ) (c : ℕ) (q : Served b m f a sh (opened bd) rp f₂ a₂ sh₂ bd₂ rp₁ c) where
   abbrev h : MonthRun
   h = runOf b runoff bd
 
@@ -48,6 +50,10 @@ module _ (b : Basin) (st t rs : List ℕ) (pa : List (List ℕ)) (ri : List ℕ)
       let none = returns-beyond b m 0 (b .rights) (stateOf b f a sh (opened bd)) u (suc k) (w .accepted .rights-good) (omega (arith, w .accepted .few-rows)) in
       let same : dueAt bd₂ u (suc k) ≡ dueAt (opened bd) u (suc k) = omega (arith, q .dues u k (omega arith), none) in
       place-read bd₂ (word-as-due i) ∙ same ∙ sym (place-read (opened bd) (word-as-due i)) ∙ opened-short bd i o
+
+  turns-count : length (h .turns) ≡ n
+  unfolding runOf month
+  turns-count = turns-length b _ 0 (b .rights) _
 
   few : n ≤ 256
   few = w .accepted .few-rights
@@ -75,6 +81,15 @@ module _ (b : Basin) (st t rs : List ℕ) (pa : List (List ℕ)) (ri : List ℕ)
   short-is : (i : ℕ) → i < n → hasReason rp₁ i ≡ isShort (grantAt (h .turns) i)
   unfolding isShort
   short-is i o = ap (λ (x : ℕ). not (eqb x 0)) (q .lines .reason i o ∙ ap (λ (ts : List Turn). reasonNumber ((grantAt ts i) .reason)) (turns-are b st t rs pa ri w runoff bd can f a sh start m em rp f₂ a₂ sh₂ bd₂ rp₁ c q))
+
+  -- and so the reasons are as many as the rights that are short
+  pub shorts-told : reasonsIn n rp₁ ≡ shortCount (h .turns)
+  unfolding reasonsIn shortCount
+  shorts-told =
+      let each : ℕ → ℕ = λ i. only (isShort (grantAt (h .turns) i)) 1 in
+      sumTo-same n _ each (λ i o. ap (λ (t : Bool). only t 1) (short-is i o))
+      ∙ ap (λ (k : ℕ). sumTo k each) (sym turns-count)
+      ∙ sumTo-over (λ (t : Turn). t .grant) noGrant (λ (g : Grant). only (isShort g) 1) (h .turns)
 
   shorts-are : (h .carried) .shorts ≡ noted b (monthAt bd) (h .turns) (openingShorts b (carriedOf b bd))
   unfolding runOf month carriedOf

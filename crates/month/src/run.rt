@@ -32,7 +32,7 @@ pub fn run(
     let mut short = [false; 64];
     begin(&below, runoff, &mut flow, &mut available, board);
     let m = in_year(board[MONTH]);
-    let totals = serve_all(
+    let deep = serve_all(
         stations,
         &below,
         reservoirs,
@@ -52,11 +52,10 @@ pub fn run(
         rows,
         &flow,
         &available,
-        totals.deep,
+        deep,
         board,
         report,
-    );
-    totals.shorts
+    )
 }
 
 // The month with any sheet of runoff: a caller that keeps an accepted file and a possible board need not have them tested again.

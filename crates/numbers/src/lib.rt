@@ -3,6 +3,7 @@
 ghost use mathlib.Core.Path.{_≡_};
 ghost use mathlib.Core.Bool.{_||_};
 ghost use Prim.Native.Nat.{_≤_, _<_, _^_, min};
+ghost use Rattle.general.specs.Sums.{only};
 ghost use Rattle.general.specs.Tests.{_and_, between, bit, withBit};
 
 pub mod bytes;
@@ -94,6 +95,13 @@ pub fn put_bit(word: u64, i: u64, on: bool) -> u64
         return rest + one;
     }
     rest
+}
+
+// What a test counts for.
+pub fn one_if(on: bool) -> usize
+    ensures { λ r. ⌜ (r ≡ only on 1) × (r ≤ 1) ⌝ }
+{
+    if on { 1 } else { 0 }
 }
 
 // ---- tests joined without a branch: rules of one record are all asked, and their answers put together

@@ -1,23 +1,21 @@
 -- The rights one after another: from k rights served to k + 1, and from all served to the month's turns.
-use mathlib.Core.Bool.{Bool, true, false, not, cond}
+use mathlib.Core.Bool.{Bool}
 use mathlib.Core.List.{List, [], _∷_}
 use mathlib.Core.Path.{_≡_, refl, sym, ap, _∙_, subst}
 use Prim.Native.Nat.{ℕ, suc, _+_, _≤_, _<_}
 use native.Mathlib.Omega.{arith}
-use lib.Dec.{eqb}
 use lib.ListN.{length, getD, drop}
-use Rattle.general.specs.Sums.{sumOver, only}
+use Rattle.general.specs.Sums.{sumOver}
 use Rattle.general.proofs.Lists.{getD-map-in, drop-at, drop-next, drop-head, drop-all}
 use Rattle.places.specs.Report.{stationPlace}
 use Rattle.rules.specs.Basin.{Right, Basin, noRight, patternOf}
 use Rattle.rules.specs.Returns.{returnedAt, lostDeep, partsOf}
 use Rattle.rules.specs.Turn.{State, Grant, granted, Turn, turn}
-use Rattle.rules.specs.Month.{turns, afterTurns, returnedBy, returnsAt, deepBy, deepOf, reasonNumber, isShort, shortCount, noGrant, grantAt}
+use Rattle.rules.specs.Month.{turns, afterTurns, returnedBy, returnsAt, deepBy, deepOf, reasonNumber, noGrant, grantAt}
 use Rattle.rules.proofs.Bounds.{StateCapped, turn-capped}
 use Rattle.rules.proofs.Months.{turns-length}
 use Rattle.records.specs.Records.{rightCount, rightOf}
-use Rattle.turns.specs.declared.lines.Totals.{Totals}
-use Rattle.turns.specs.State.{stateOf, Setting, Within, whyOf, namedBy, homeOf}
+use Rattle.turns.specs.State.{stateOf, Setting, Within, namedBy, homeOf}
 use Rattle.turns.specs.Lines.{CanLine, LineServed, LinesTo, turnsFrom, CanServe, ServedTo, Served}
 use Rattle.turns.proofs.Keeping.{kept-none, kept-on}
 use Rattle.turns.proofs.Facts.{rights-count, right-is}
@@ -26,13 +24,12 @@ use Rattle.turns.proofs.LinesMade.{lines-more}
 
 -- ---- no right
 
-pub served-none : {b : Basin} {m : ℕ} {f a : List ℕ} {sh : List Bool} {bd rp : List ℕ} → Within b bd → ((u : ℕ) → u < 64 → getD a u 0 ≤ getD f u 0) → ServedTo b m 0 f a sh bd rp f a sh bd rp (record { shorts = 0; deep = 0 })
+pub served-none : {b : Basin} {m : ℕ} {f a : List ℕ} {sh : List Bool} {bd rp : List ℕ} → Within b bd → ((u : ℕ) → u < 64 → getD a u 0 ≤ getD f u 0) → ServedTo b m 0 f a sh bd rp f a sh bd rp 0
 served-none {b} {m} {f} {a} {sh} {bd} {rp} h u = record {
   left = refl;
   state = refl;
   dues = λ q j o. refl;
-  shorts = omega arith;
-  deep = omega arith;
+  lost = omega arith;
   month = refl;
   lines = record {
     from-river = λ j o. absurd (omega (arith, o));
@@ -49,27 +46,16 @@ served-none {b} {m} {f} {a} {sh} {bd} {rp} h u = record {
   within = u;
   grown = λ q o. omega arith;
   filled = λ j. omega arith;
-  deep-most = omega arith;
+  lost-most = omega arith;
   capped = h;
   kept = kept-none b bd;
 }
 
 -- ---- one right more
 
-short-same : (x : Bool) → cond x 0 1 ≡ only (not x) 1
-short-same true = refl
-short-same false = refl
-
-pub short-most : {b : Basin} {ri : List ℕ} {i m : ℕ} {f a : List ℕ} {sh : List Bool} {bd rp f′ a′ : List ℕ} {sh′ : List Bool} {bd′ rp′ : List ℕ} {c : Totals} → LineServed b ri i m f a sh bd rp f′ a′ sh′ bd′ rp′ c → c .shorts ≤ 1
-short-most {c = c} q = go (eqb (whyOf ((q .made) .reason)) 0) (q .short)
-  where
-    go : (x : Bool) → c .shorts ≡ cond x 0 1 → c .shorts ≤ 1
-    go true e = omega (arith, e)
-    go false e = omega (arith, e)
-
 module _ {b : Basin} {st t rs : List ℕ} {pa : List (List ℕ)} {ri : List ℕ} (w : Setting b st t rs pa ri) {m k : ℕ} (hk : k < rightCount ri)
-    {f a : List ℕ} {sh : List Bool} {bd rp f′ a′ : List ℕ} {sh′ : List Bool} {bd′ rp′ : List ℕ} {c : Totals} (p : ServedTo b m k f a sh bd rp f′ a′ sh′ bd′ rp′ c) (room : stationPlace k < length rp′)
-    {f″ a″ : List ℕ} {sh″ : List Bool} {bd″ rp″ : List ℕ} {d : Totals} (q : LineServed b ri k m f′ a′ sh′ bd′ rp′ f″ a″ sh″ bd″ rp″ d) where
+    {f a : List ℕ} {sh : List Bool} {bd rp f′ a′ : List ℕ} {sh′ : List Bool} {bd′ rp′ : List ℕ} {c : ℕ} (p : ServedTo b m k f a sh bd rp f′ a′ sh′ bd′ rp′ c) (room : stationPlace k < length rp′)
+    {f″ a″ : List ℕ} {sh″ : List Bool} {bd″ rp″ : List ℕ} {d : ℕ} (q : LineServed b ri k m f′ a′ sh′ bd′ rp′ f″ a″ sh″ bd″ rp″ d) where
   abbrev all : List Turn
   all = turnsFrom b m (stateOf b f a sh bd)
 
@@ -107,14 +93,6 @@ module _ {b : Basin} {st t rs : List ℕ} {pa : List (List ℕ)} {ri : List ℕ}
   unfolding deepOf sumOver deepBy turn
   deep-next = refl
 
-  shorts-next : shortCount (now ∷ rest) ≡ only (isShort (now .grant)) 1 + shortCount rest
-  unfolding shortCount sumOver
-  shorts-next = refl
-
-  short-one : d .shorts ≡ only (isShort (now .grant)) 1
-  unfolding isShort
-  short-one = q .short ∙ ap (λ (x : ℕ). cond (eqb x 0) 0 1) (q .turned .tells .reason) ∙ short-same (eqb (reasonNumber ((now .grant) .reason)) 0)
-
   here : drop k all ≡ now ∷ rest
   here = p .left ∙ next
 
@@ -130,13 +108,12 @@ module _ {b : Basin} {st t rs : List ℕ} {pa : List (List ℕ)} {ri : List ℕ}
       (q .turned .tells .reason ∙ sym (ap (λ (g : Grant). reasonNumber (g .reason)) grant-here))
       (q .turned .tells .station ∙ sym (ap (λ (g : Grant). g .station) grant-here)))
 
-  served-suc : ServedTo b m (suc k) f a sh bd rp f″ a″ sh″ bd″ rp″ (record { shorts = c .shorts + d .shorts; deep = c .deep + d .deep })
+  served-suc : ServedTo b m (suc k) f a sh bd rp f″ a″ sh″ bd″ rp″ (c + d)
   served-suc = record {
     left = drop-next all k now rest here;
     state = ap (afterTurns rest) (q .turned .state) ∙ sym after-next ∙ sym (ap (λ (l : List Turn). afterTurns l s) next) ∙ p .state;
     dues = λ u j o. omega (arith, p .dues u j o, ap (λ (l : List Turn). returnsAt b l u (suc j)) next, returns-next u (suc j), q .turned .dues u j o);
-    shorts = omega (arith, p .shorts, ap shortCount next, shorts-next, short-one);
-    deep = omega (arith, p .deep, ap (deepOf b) next, deep-next, q .deep, q .turned .deep);
+    lost = omega (arith, p .lost, ap (deepOf b) next, deep-next, q .lost, q .turned .deep);
     month = q .turned .month ∙ p .month;
     lines = lines-next;
     size = q .turned .size ∙ p .size;
@@ -146,18 +123,18 @@ module _ {b : Basin} {st t rs : List ℕ} {pa : List (List ℕ)} {ri : List ℕ}
     within = q .turned .within;
     grown = λ u o. omega (arith, p .grown u o, q .turned .grown u o);
     filled = λ j. omega (arith, p .filled j, q .turned .filled j);
-    deep-most = omega (arith, p .deep-most, q .deep, q .turned .deep-most);
+    lost-most = omega (arith, p .lost-most, q .lost, q .turned .deep-most);
     capped = capped-within b f″ a″ sh″ bd″ (subst (StateCapped b) (sym (q .turned .state)) (turn-capped b m k r s (right-is w k hk) (within-capped b f′ a′ sh′ bd′ (p .capped))));
     kept = kept-on b bd bd′ bd″ (p .kept) (q .turned .kept);
   }
 
   -- the loop counts by + 1
-  pub served-more : ServedTo b m (k + 1) f a sh bd rp f″ a″ sh″ bd″ rp″ (record { shorts = c .shorts + d .shorts; deep = c .deep + d .deep })
-  served-more = subst (λ (n : ℕ). ServedTo b m n f a sh bd rp f″ a″ sh″ bd″ rp″ (record { shorts = c .shorts + d .shorts; deep = c .deep + d .deep })) (omega arith) served-suc
+  pub served-more : ServedTo b m (k + 1) f a sh bd rp f″ a″ sh″ bd″ rp″ (c + d)
+  served-more = subst (λ (n : ℕ). ServedTo b m n f a sh bd rp f″ a″ sh″ bd″ rp″ (c + d)) (omega arith) served-suc
 
 -- the next right may be served
 pub line-ready : {st t rs : List ℕ} {pa : List (List ℕ)} {ri : List ℕ} {m : ℕ} {f a : List ℕ} {sh : List Bool} {bd rp : List ℕ} (can : CanServe st t rs pa ri m f a sh bd rp)
-    {k : ℕ} → k < rightCount ri → {f′ a′ : List ℕ} {sh′ : List Bool} {bd′ rp′ : List ℕ} {c : Totals} → ServedTo (can .basin) m k f a sh bd rp f′ a′ sh′ bd′ rp′ c → CanLine st t rs pa ri k m f′ a′ sh′ bd′ rp′
+    {k : ℕ} → k < rightCount ri → {f′ a′ : List ℕ} {sh′ : List Bool} {bd′ rp′ : List ℕ} {c : ℕ} → ServedTo (can .basin) m k f a sh bd rp f′ a′ sh′ bd′ rp′ c → CanLine st t rs pa ri k m f′ a′ sh′ bd′ rp′
 line-ready {ri = ri} can {k} hk p =
     let few : k < 256 = omega (arith, hk, rights-count (can .setting), can .setting .accepted .few-rights) in
     record {
@@ -182,16 +159,15 @@ line-ready {ri = ri} can {k} hk p =
 
 -- ---- all rights
 
-pub served-all : {b : Basin} {st t rs : List ℕ} {pa : List (List ℕ)} {ri : List ℕ} (w : Setting b st t rs pa ri) {m k : ℕ} {f a : List ℕ} {sh : List Bool} {bd rp f′ a′ : List ℕ} {sh′ : List Bool} {bd′ rp′ : List ℕ} {c : Totals} → ServedTo b m k f a sh bd rp f′ a′ sh′ bd′ rp′ c → k ≡ rightCount ri → Served b m f a sh bd rp f′ a′ sh′ bd′ rp′ c
-unfolding turns afterTurns returnsAt shortCount deepOf sumOver
+pub served-all : {b : Basin} {st t rs : List ℕ} {pa : List (List ℕ)} {ri : List ℕ} (w : Setting b st t rs pa ri) {m k : ℕ} {f a : List ℕ} {sh : List Bool} {bd rp f′ a′ : List ℕ} {sh′ : List Bool} {bd′ rp′ : List ℕ} {c : ℕ} → ServedTo b m k f a sh bd rp f′ a′ sh′ bd′ rp′ c → k ≡ rightCount ri → Served b m f a sh bd rp f′ a′ sh′ bd′ rp′ c
+unfolding turns afterTurns returnsAt deepOf sumOver
 served-all {b} w {m} {k} {f} {a} {sh} {bd} {rp} {f′} {a′} {sh′} {bd′} {rp′} p e =
     let none : drop k (b .rights) ≡ [] = drop-all (b .rights) k (omega (arith, e, rights-count w)) in
     let over : turns b m k (drop k (b .rights)) (stateOf b f′ a′ sh′ bd′) ≡ [] = ap (λ (l : List Right). turns b m k l (stateOf b f′ a′ sh′ bd′)) none in
     record {
       state = sym (ap (λ (l : List Turn). afterTurns l (stateOf b f′ a′ sh′ bd′)) over) ∙ p .state;
       dues = λ u j o. omega (arith, p .dues u j o, ap (λ (l : List Turn). returnsAt b l u (suc j)) over);
-      shorts = omega (arith, p .shorts, ap shortCount over);
-      deep = omega (arith, p .deep, ap (deepOf b) over);
+      lost = omega (arith, p .lost, ap (deepOf b) over);
       month = p .month;
       lines = subst (λ (n : ℕ). LinesTo (turnsFrom b m (stateOf b f a sh bd)) n rp rp′) (e ∙ sym (rights-count w)) (p .lines);
       size = p .size;

@@ -1,19 +1,17 @@
 -- All rights of a month in list order: the lines of the report, and what the arrays hold after them.
-use mathlib.Core.Bool.{Bool, cond}
+use mathlib.Core.Bool.{Bool}
 use mathlib.Core.List.{List}
 use mathlib.Core.Path.{_≡_}
 use Prim.Native.Nat.{ℕ, suc, _+_, _*_, _≤_, _<_}
-use lib.Dec.{eqb}
 use lib.ListN.{length, getD, set, drop}
 use Rattle.places.specs.Board.{monthAt, dueAt, BoardOk}
 use Rattle.places.specs.Report.{fromRiverPlace, fromStoragePlace, reasonPlace, stationPlace, linesEnd}
 use Rattle.rules.specs.Basin.{Basin, rows}
 use Rattle.rules.specs.Turn.{State, Grant, numberAt, Turn}
-use Rattle.rules.specs.Month.{turns, afterTurns, grantAt, returnsAt, deepOf, reasonNumber, shortCount}
+use Rattle.rules.specs.Month.{turns, afterTurns, grantAt, returnsAt, deepOf, reasonNumber}
 use Rattle.records.specs.Records.{stationsOf, rowsOf, reservoirCount, rightCount, rightOf}
 use Rattle.grants.specs.declared.grants.Grant as program
 use Rattle.grants.specs.declared.grants.Reason.{Reason}
-use Rattle.turns.specs.declared.lines.Totals.{Totals}
 use Rattle.rules.specs.Accepted.{mostAmount}
 use Rattle.river.specs.Arrays.{RiverOk}
 use Rattle.grants.specs.Stages.{homeRow}
@@ -33,21 +31,16 @@ unfoldable pub lineOf : List ℕ → ℕ → program.Grant → ℕ → List ℕ
 lineOf report k g station =
     set (set (set (set report (fromRiverPlace k) (g .«from_river»)) (fromStoragePlace k) (g .«from_storage»)) (reasonPlace k) (whyOf (g .reason))) (stationPlace k) station
 
--- 1 for a short right
-abbrev pub shortOne : program.Grant → ℕ
-shortOne g = cond (eqb (whyOf (g .reason)) 0) 0 1
-
 -- a turn with its line in the report
 pub record CanLine (st t rs : List ℕ) (pa : List (List ℕ)) (ri : List ℕ) (i m : ℕ) (f a : List ℕ) (sh : List Bool) (bd rp : List ℕ) : Type 0 where
   pub ready : Ready st t rs pa ri i m f a sh bd
   pub line : stationPlace i < length rp
 
-pub record LineServed (b : Basin) (ri : List ℕ) (i m : ℕ) (f a : List ℕ) (sh : List Bool) (bd rp f′ a′ : List ℕ) (sh′ : List Bool) (bd′ rp′ : List ℕ) (c : Totals) : Type 0 where
+pub record LineServed (b : Basin) (ri : List ℕ) (i m : ℕ) (f a : List ℕ) (sh : List Bool) (bd rp f′ a′ : List ℕ) (sh′ : List Bool) (bd′ rp′ : List ℕ) (deep : ℕ) : Type 0 where
   pub made : program.Grant
   pub turned : Turned b ri i m f a sh bd f′ a′ sh′ bd′ made
   pub written : rp′ ≡ lineOf rp i made (namedBy (homeOf b (rightOf ri i)) (made .reason))
-  pub short : c .shorts ≡ shortOne made
-  pub deep : c .deep ≡ made .deep
+  pub lost : deep ≡ made .deep
 
 -- ---- the lines of the first k rights
 
@@ -76,13 +69,12 @@ pub record CanServe (st t rs : List ℕ) (pa : List (List ℕ)) (ri : List ℕ) 
   pub lines : linesEnd (rightCount ri) ≤ length rp
 
 -- k rights are served: what is left of the turns is what the rest of the rights make of the state that the arrays hold
-pub record ServedTo (b : Basin) (m k : ℕ) (f a : List ℕ) (sh : List Bool) (bd rp f′ a′ : List ℕ) (sh′ : List Bool) (bd′ rp′ : List ℕ) (c : Totals) : Type 0 where
+pub record ServedTo (b : Basin) (m k : ℕ) (f a : List ℕ) (sh : List Bool) (bd rp f′ a′ : List ℕ) (sh′ : List Bool) (bd′ rp′ : List ℕ) (deep : ℕ) : Type 0 where
   pub left : drop k (turnsFrom b m (stateOf b f a sh bd)) ≡ turns b m k (drop k (b .rights)) (stateOf b f′ a′ sh′ bd′)
   pub state : afterTurns (turns b m k (drop k (b .rights)) (stateOf b f′ a′ sh′ bd′)) (stateOf b f′ a′ sh′ bd′) ≡ afterTurns (turnsFrom b m (stateOf b f a sh bd)) (stateOf b f a sh bd)
   pub dues : (w j : ℕ) → j < 11
       → dueAt bd′ w (suc j) + returnsAt b (turns b m k (drop k (b .rights)) (stateOf b f′ a′ sh′ bd′)) w (suc j) ≡ dueAt bd w (suc j) + returnsAt b (turnsFrom b m (stateOf b f a sh bd)) w (suc j)
-  pub shorts : c .shorts + shortCount (turns b m k (drop k (b .rights)) (stateOf b f′ a′ sh′ bd′)) ≡ shortCount (turnsFrom b m (stateOf b f a sh bd))
-  pub deep : c .deep + deepOf b (turns b m k (drop k (b .rights)) (stateOf b f′ a′ sh′ bd′)) ≡ deepOf b (turnsFrom b m (stateOf b f a sh bd))
+  pub lost : deep + deepOf b (turns b m k (drop k (b .rights)) (stateOf b f′ a′ sh′ bd′)) ≡ deepOf b (turnsFrom b m (stateOf b f a sh bd))
   pub month : monthAt bd′ ≡ monthAt bd
   pub lines : LinesTo (turnsFrom b m (stateOf b f a sh bd)) k rp rp′
   pub size : length bd′ ≡ length bd
@@ -92,16 +84,15 @@ pub record ServedTo (b : Basin) (m k : ℕ) (f a : List ℕ) (sh : List Bool) (b
   pub within : (w : ℕ) → w < 64 → getD a′ w 0 ≤ getD f′ w 0
   pub grown : (w : ℕ) → w < 64 → getD f′ w 0 ≤ getD f w 0 + k * (6 * mostAmount)
   pub filled : (j : ℕ) → getD bd′ j 0 ≤ getD bd j 0 + k * (6 * mostAmount)
-  pub deep-most : c .deep ≤ k * (6 * mostAmount)
+  pub lost-most : deep ≤ k * (6 * mostAmount)
   pub capped : Within b bd′
   pub kept : Kept b bd bd′
 
--- all rights are served, with c in all
-pub record Served (b : Basin) (m : ℕ) (f a : List ℕ) (sh : List Bool) (bd rp f′ a′ : List ℕ) (sh′ : List Bool) (bd′ rp′ : List ℕ) (c : Totals) : Type 0 where
+-- all rights are served, and so much of their returns went deep
+pub record Served (b : Basin) (m : ℕ) (f a : List ℕ) (sh : List Bool) (bd rp f′ a′ : List ℕ) (sh′ : List Bool) (bd′ rp′ : List ℕ) (deep : ℕ) : Type 0 where
   pub state : stateOf b f′ a′ sh′ bd′ ≡ afterTurns (turnsFrom b m (stateOf b f a sh bd)) (stateOf b f a sh bd)
   pub dues : (w j : ℕ) → j < 11 → dueAt bd′ w (suc j) ≡ dueAt bd w (suc j) + returnsAt b (turnsFrom b m (stateOf b f a sh bd)) w (suc j)
-  pub shorts : c .shorts ≡ shortCount (turnsFrom b m (stateOf b f a sh bd))
-  pub deep : c .deep ≡ deepOf b (turnsFrom b m (stateOf b f a sh bd))
+  pub lost : deep ≡ deepOf b (turnsFrom b m (stateOf b f a sh bd))
   pub month : monthAt bd′ ≡ monthAt bd
   pub lines : LinesTo (turnsFrom b m (stateOf b f a sh bd)) (length (b .rights)) rp rp′
   pub size : length bd′ ≡ length bd

@@ -5,7 +5,7 @@ ghost use lib.ListN.{length};
 ghost use Rattle.places.specs.Report.{stationPlace};
 ghost use Rattle.rules.specs.Basin.{Basin};
 ghost use Rattle.records.specs.Records.{rowsOf, reservoirCount};
-ghost use Rattle.turns.specs.Lines.{reservoirStation, CanName, lineOf, shortOne, CanLine, LineServed, CanServe, Served};
+ghost use Rattle.turns.specs.Lines.{reservoirStation, CanName, lineOf, CanLine, LineServed, CanServe, Served};
 ghost use Rattle.grants.specs.Stages.{homeRow};
 ghost use Rattle.turns.specs.State.{whyOf, namedBy, Setting};
 use crate::serve::Turn;
@@ -21,13 +21,6 @@ use places::report::STATION;
 use places::report::line_place;
 use records::reservoirs::reservoir_at;
 use records::rights::right_at;
-
-// What the service of rights amounts to: how many are short, and what goes deep.
-pub struct Totals {
-    pub shorts: usize,
-    pub deep: u64,
-}
-
 // 01's number for a reason.
 fn why(reason: Reason) -> u64
     ensures { λ r. ⌜ r ≡ whyOf reason ⌝ }
@@ -62,10 +55,10 @@ fn name(stations: &[u8], reservoirs: &[u8], v: usize, reason: Reason) -> u64
     }
 }
 
-// The line of right i. Answers 1 for a right that is short.
-fn put_line(report: &mut [u64], i: usize, grant: Grant, station: u64) -> usize
+// The line of right i.
+fn put_line(report: &mut [u64], i: usize, grant: Grant, station: u64)
     requires { ⌜ (i < 256) × (stationPlace i < length (now report)) ⌝ }
-    ensures { λ c. ⌜ (c ≡ shortOne grant) × (now (report .exit) ≡ lineOf (now (report .entry)) i grant station) ⌝ }
+    ensures { λ _. ⌜ now (report .exit) ≡ lineOf (now (report .entry)) i grant station ⌝ }
 {
     let told = grant.reason;
     let reason = why(told);
@@ -74,13 +67,9 @@ fn put_line(report: &mut [u64], i: usize, grant: Grant, station: u64) -> usize
     report[line + FROM_STORAGE] = grant.from_storage;
     report[line + REASON] = reason;
     report[line + STATION] = station;
-    if reason == 0 {
-        return 0;
-    }
-    1
 }
 
-// A turn with its line in the report.
+// A turn with its line in the report. Answers what of it goes deep.
 fn serve_line(
     stations: &[u8],
     below: &[u8; 64],
@@ -93,9 +82,9 @@ fn serve_line(
     short: &mut [bool; 64],
     board: &mut [u64],
     report: &mut [u64],
-) -> Totals
+) -> u64
     requires { ⌜ CanLine (now stations) (now below) (now reservoirs) (now patterns) (now rights) (turn .right) (turn .month) (now flow) (now available) (now short) (now board) (now report) ⌝ }
-    ensures { λ c. ⌜ ((b : Basin) → Setting b (now (stations .entry)) (now (below .entry)) (now (reservoirs .entry)) (now (patterns .entry)) (now (rights .entry)) → LineServed b (now (rights .entry)) (turn .right) (turn .month) (now (flow .entry)) (now (available .entry)) (now (short .entry)) (now (board .entry)) (now (report .entry)) (now (flow .exit)) (now (available .exit)) (now (short .exit)) (now (board .exit)) (now (report .exit)) c) ⌝ }
+    ensures { λ deep. ⌜ ((b : Basin) → Setting b (now (stations .entry)) (now (below .entry)) (now (reservoirs .entry)) (now (patterns .entry)) (now (rights .entry)) → LineServed b (now (rights .entry)) (turn .right) (turn .month) (now (flow .entry)) (now (available .entry)) (now (short .entry)) (now (board .entry)) (now (report .entry)) (now (flow .exit)) (now (available .exit)) (now (short .exit)) (now (board .exit)) (now (report .exit)) deep) ⌝ }
 {
     let i = turn.right;
     let right = right_at(rights, i);
@@ -114,13 +103,11 @@ fn serve_line(
     let reason = grant.reason;
     let deep = grant.deep;
     let station = name(stations, reservoirs, index(right.reservoir), reason);
-    Totals {
-        shorts: put_line(report, i, grant, station),
-        deep,
-    }
+    put_line(report, i, grant, station);
+    deep
 }
 
-// All rights in list order.
+// All rights in list order. Answers what goes deep of all of them.
 pub fn serve_all(
     stations: &[u8],
     below: &[u8; 64],
@@ -133,16 +120,15 @@ pub fn serve_all(
     short: &mut [bool; 64],
     board: &mut [u64],
     report: &mut [u64],
-) -> Totals
+) -> u64
     requires { ⌜ CanServe (now stations) (now below) (now reservoirs) patterns (now rights) m (now flow) (now available) (now short) (now board) (now report) ⌝ }
-    ensures { λ c. ⌜ ((b : Basin) → Setting b (now (stations .entry)) (now (below .entry)) (now (reservoirs .entry)) patterns (now (rights .entry)) → Served b m (now (flow .entry)) (now (available .entry)) (now (short .entry)) (now (board .entry)) (now (report .entry)) (now (flow .exit)) (now (available .exit)) (now (short .exit)) (now (board .exit)) (now (report .exit)) c) ⌝ }
+    ensures { λ deep. ⌜ ((b : Basin) → Setting b (now (stations .entry)) (now (below .entry)) (now (reservoirs .entry)) patterns (now (rights .entry)) → Served b m (now (flow .entry)) (now (available .entry)) (now (short .entry)) (now (board .entry)) (now (report .entry)) (now (flow .exit)) (now (available .exit)) (now (short .exit)) (now (board .exit)) (now (report .exit)) deep) ⌝ }
 {
     let n = rights.len() / 76;
-    let mut shorts = 0;
     let mut deep: u64 = 0;
     for i in 0..n {
         let turn = Turn { right: i, month: m };
-        let line = serve_line(
+        deep += serve_line(
             stations,
             below,
             reservoirs,
@@ -155,8 +141,6 @@ pub fn serve_all(
             board,
             report,
         );
-        shorts += line.shorts;
-        deep += line.deep;
     }
-    Totals { shorts, deep }
+    deep
 }

@@ -28,7 +28,7 @@ evaporate-requires : tie.Need-evaporate-requires
 evaporate-requires c κs =
     let p = c .before .before .before .before .before .before .before .before .before .before .before .before .before .before .before .before .before .pre in
     let told = c .before .before .before .before .before .before .put-rows .ensures in
-    record { few = p .few; in-year = omega (arith, p .in-year, c .before .before .before .in-year .ensures); size = omega (arith, p .size, c .before .before .before .before .before .before .before .before .before .before .note-shorts .ensures .size); places = omega (arith, p .places, told .size) }
+    record { few = p .few; in-year = omega (arith, p .in-year, c .before .before .before .in-year .ensures); size = omega (arith, p .size, c .before .before .before .before .before .before .before .before .before .before .note-shorts .ensures .1 .size); places = omega (arith, p .places, told .size) }
 
 deep-place-requires : tie.Need-deep-place-requires
 deep-place-requires c κs =
@@ -45,10 +45,10 @@ next-month-requires : tie.Need-next-month-requires
 next-month-requires c κs = c .before .before .before .before .before .before .before .before .before .before .before .before .before .before .before .before .before .before .before .before .before .before .before .pre .in-year
 
 slice-write-board : tie.Need-slice-write-board
-slice-write-board c = omega (arith, c .before .before .before .before .before .before .before .before .before .before .before .before .before .before .before .before .before .before .before .before .before .before .before .before .pre .size, c .before .before .before .before .before .before .before .before .before .before .before .before .before .before .before .before .before .note-shorts .ensures .size, c .before .before .before .before .before .before .evaporate .ensures .size)
+slice-write-board c = omega (arith, c .before .before .before .before .before .before .before .before .before .before .before .before .before .before .before .before .before .before .before .before .before .before .before .before .pre .size, c .before .before .before .before .before .before .before .before .before .before .before .before .before .before .before .before .before .note-shorts .ensures .1 .size, c .before .before .before .before .before .before .evaporate .ensures .size)
 
 same-length : tie.Need-same-length
-same-length c = simp length-set (omega (arith, c .before .before .before .before .before .before .before .before .before .before .before .before .before .before .before .before .before .note-shorts .ensures .size, c .before .before .before .before .before .before .evaporate .ensures .size))
+same-length c = simp length-set (omega (arith, c .before .before .before .before .before .before .before .before .before .before .before .before .before .before .before .before .before .note-shorts .ensures .1 .size, c .before .before .before .before .before .before .evaporate .ensures .size))
 
 same-length-2 : tie.Need-same-length-2
 same-length-2 c = simp length-set (omega (arith, c .before .before .before .before .before .before .evaporate .ensures .report-size, c .before .before .before .before .before .before .before .before .before .before .before .before .before .put-rows .ensures .size))
@@ -56,8 +56,8 @@ same-length-2 c = simp length-set (omega (arith, c .before .before .before .befo
 returns : tie.Need-returns
 returns c =
     let s = c .before .before .before .before .before .before .before .before .before .before .before .before .before .before .before .before .before .before .before .before .before .before .before .before .args in
-    ended-of (now (s .reservoirs)) (s .n) (s .rows) (now (s .flow)) (now (s .available)) (s .deep) (now (s .board)) (now (s .report)) _ _ _ _ _ _
-    (c .before .before .before .before .before .before .before .before .before .before .before .before .before .before .before .before .before .note-shorts .ensures) (c .before .before .before .before .before .before .before .before .before .before .before .before .before .put-rows .ensures) (c .before .before .before .before .before .before .before .before .before .before .in-year .ensures) (c .before .before .before .before .before .before .before .rows-end .ensures) (c .before .before .before .before .before .before .evaporate .ensures) (c .before .deep-place .ensures) (c .next-month .ensures)
+    ended-of (now (s .reservoirs)) (s .n) (s .rows) (now (s .flow)) (now (s .available)) (s .deep) (now (s .board)) (now (s .report)) _ _ _ _ _ _ _
+    (c .before .before .before .before .before .before .before .before .before .before .before .before .before .before .before .before .before .note-shorts .ensures .0) (c .before .before .before .before .before .before .before .before .before .before .before .before .before .before .before .before .before .note-shorts .ensures .1) (c .before .before .before .before .before .before .before .before .before .before .before .before .before .put-rows .ensures) (c .before .before .before .before .before .before .before .before .before .before .in-year .ensures) (c .before .before .before .before .before .before .before .rows-end .ensures) (c .before .before .before .before .before .before .evaporate .ensures) (c .before .deep-place .ensures) (c .next-month .ensures)
 
 pub end-spec : {M : Type 1} → statement M
 end-spec =

@@ -1,11 +1,7 @@
 -- `turns::lines::put_line` meets its contract. Assumes nothing.
-use mathlib.Core.Path.{sym, ap, _∙_}
-use mathlib.Core.Bool.{Bool, cond}
-use borrow.Author.Tests.{eq-eqb, ne-eqb}
 use Rattle.turns.specs.Lines.{lineOf}
 use native.Mathlib.Omega.{arith}
-use Prim.Native.Nat.{ℕ, _+_}
-use lib.Dec.{eqb}
+use Prim.Native.Nat.{_+_}
 use lib.ListN.{set, length-set}
 use denote.Ref.{now}
 use borrow.Author.Needs.{needs}
@@ -70,25 +66,12 @@ same-length c = search needs
 returns : tie.Need-returns
 unfolding lineOf
 returns c =
-    let b = c .before .before .before .before in
+    let b = c .before .before .before in
     let l = b .args .report .now in
     let g = b .args .grant in
-    let e = c .before .before .why .ensures in
-    let q = c .before .line-place .ensures in
-    (sym (ap (λ (t : Bool). cond t 0 1) (sym (ap (λ (x : ℕ). eqb x 0) e) ∙ eq-eqb (c .before .before .why .result) 0 (c .if1 .taken))), (λ z. set (set (set (set l (q z) (g .«from_river»)) (q z + 1) (g .«from_storage»)) (q z + 2) (e z)) (q z + 3) (b .args .station)))
-
-same-length-2 : tie.Need-same-length-2
-same-length-2 c = search needs
-
-returns-2 : tie.Need-returns-2
-unfolding lineOf
-returns-2 c =
-    let b = c .before .before .before .before in
-    let l = b .args .report .now in
-    let g = b .args .grant in
-    let e = c .before .before .why .ensures in
-    let q = c .before .line-place .ensures in
-    (sym (ap (λ (t : Bool). cond t 0 1) (sym (ap (λ (x : ℕ). eqb x 0) e) ∙ ne-eqb (c .before .before .why .result) 0 (c .if1 .left))), (λ z. set (set (set (set l (q z) (g .«from_river»)) (q z + 1) (g .«from_storage»)) (q z + 2) (e z)) (q z + 3) (b .args .station)))
+    let e = c .before .why .ensures in
+    let q = c .line-place .ensures in
+    λ z. set (set (set (set l (q z) (g .«from_river»)) (q z + 1) (g .«from_storage»)) (q z + 2) (e z)) (q z + 3) (b .args .station)
 
 pub put-line-spec : {M : Type 1} → statement M
 put-line-spec =
@@ -108,6 +91,4 @@ put-line-spec =
     mul-report-4
     slice-write-report-4
     same-length
-    returns
-    same-length-2
-    returns-2)
+    returns)

@@ -56,9 +56,8 @@ returns c =
     record {
       made = made;
       turned = turned;
-      written = c .before .before .put-line .ensures .1 ∙ ap (lineOf (now (s .report)) (s .turn .right) made) named;
-      short = c .before .before .put-line .ensures .0;
-      deep = refl;
+      written = c .before .before .put-line .ensures ∙ ap (lineOf (now (s .report)) (s .turn .right) made) named;
+      lost = refl;
     }
 
 pub serve-line-spec : {M : Type 1} → statement M
