@@ -22,7 +22,7 @@ use Rattle.sections.specs.File.{sectionOf}
 use Rattle.records.specs.Records.{rowsOf, reservoirCount, reservoirRecord, reservoirOf, reservoirsOf, rightCount, rightRecord, rightOf, rightsOf, basinOf, bodies}
 use Rattle.records.proofs.Rows.{rows-are}
 use Rattle.records.proofs.Decoded.{basin-bodies, reservoirs-are, rights-are}
-use Rattle.places.specs.Board.{monthAt, storageAt, marksAt, takenAt, dueAt, wordAt, takenPlace, duesOf, duePlace, wordPlace, boardLength}
+use Rattle.places.specs.Board.{monthAt, storageAt, marksAt, takenAt, dueAt, wordAt, takenPlace, duesOf, duePlace, wordsFrom, wordPlace, boardLength}
 use Rattle.boards.specs.Board.{possible, storageSum, dueSum}
 use Rattle.boards.specs.Bodies.{storageMost, takenMost, storagesOk, takenOk, duesOk, wordsOk, heldOk, rowOk, haveBits, Counted, Sized}
 
@@ -80,7 +80,7 @@ rows-run t from (suc m) =
     ∙ sym (all-parts (11 * m) 11 (λ j. t (from + j)))
     ∙ ap (λ (k : ℕ). allTo k (λ j. t (from + j))) (sym next)
 
-pub dues-parts : (n : ℕ) (board : List ℕ) → n ≤ 64 → (allTo n (rowOk board) and haveBits 0 board (duesOf n) (970 - duesOf n)) ≡ duesOk n board
+pub dues-parts : (n : ℕ) (board : List ℕ) → n ≤ 64 → (allTo n (rowOk board) and haveBits 0 board (duesOf n) (wordsFrom - duesOf n)) ≡ duesOk n board
 unfolding rowOk haveBits duesOk
 dues-parts n board h = sym (in-two n 64 _ h past ∙ (λ z. all-same n _ _ (λ w l. all-same 11 _ _ (λ k _. within w k l)) z and run z))
   where
@@ -93,7 +93,7 @@ dues-parts n board h = sym (in-two n 64 _ h past ∙ (λ z. all-same n _ _ (λ w
         ∙ none-left (dueAt board (n + w) (suc k)) 0 (omega arith)
         ∙ ap (λ (p : ℕ). ltb (getD board p 0) 1) (omega arith))
 
-    run : allTo (64 - n) (λ w. allTo 11 (λ k. ltb (getD board (duesOf n + 11 * w + k) 0) 1)) ≡ allTo (970 - duesOf n) (λ j. ltb (getD board (duesOf n + j) 0) 1)
+    run : allTo (64 - n) (λ w. allTo 11 (λ k. ltb (getD board (duesOf n + 11 * w + k) 0) 1)) ≡ allTo (wordsFrom - duesOf n) (λ j. ltb (getD board (duesOf n + j) 0) 1)
     run = rows-run (λ p. ltb (getD board p 0) 1) (duesOf n) (64 - n) ∙ ap (λ (k : ℕ). allTo k (λ j. ltb (getD board (duesOf n + j) 0) 1)) (omega (arith, h))
 
 -- dues of 37 bits are all within what the past months can send

@@ -1,5 +1,4 @@
-// Whether a board is possible in a basin. Every place is looked at once: a loop that may leave early costs more than it saves, since most
-// boards are good.
+// Whether a board is possible in a basin. No loop leaves early: that costs more than it saves, since most boards are good.
 ghost use mathlib.Core.Path.{_≡_};
 ghost use mathlib.Core.List.{List};
 ghost use Prim.Native.Nat.{ℕ, suc, _-_, _≤_, _<_, _^_};

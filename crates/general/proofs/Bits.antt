@@ -1,7 +1,7 @@
 -- Bits of a word: what the lowest and the others are, what becomes of them when one is set or cleared, and how many are set. Assumes nothing.
 use mathlib.Core.Path.{_≡_, refl, sym, ap, _∙_}
 use mathlib.Core.Logic.{_≢_}
-use mathlib.Core.Bool.{Bool, true, false, cond}
+use mathlib.Core.Bool.{Bool, true, false}
 use Prim.Native.Nat.{ℕ, zero, suc, _+_, _-_, _/_, _*_, _%_, _^_, _≤_, _<_}
 use native.Mathlib.Nat.{pow-suc, pow-le-pow-right, mul-comm, div-div-eq-div-mul, zero-div}
 use native.Mathlib.Decide.{decLt}

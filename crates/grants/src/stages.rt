@@ -1,7 +1,7 @@
 // The stages of a right's turn: its demand, its part from the river, its part from storage.
 ghost use mathlib.Core.Path.{_≡_};
 ghost use mathlib.Core.Bool.{not};
-ghost use Prim.Native.Nat.{_+_, _≤_, _<_, min};
+ghost use Prim.Native.Nat.{_+_, _<_, min};
 ghost use lib.ListN.{length};
 ghost use Rattle.general.specs.Sums.{only};
 ghost use Rattle.places.specs.Board.{boardLength};

@@ -1,16 +1,15 @@
 -- The short months answered on the tally's board are those of its grants. Assumes nothing.
 use mathlib.Core.Path.{_≡_, sym, ap, _∙_}
-use mathlib.Core.Bool.{Bool, true, false}
-use mathlib.Core.List.{List, []}
+use mathlib.Core.Bool.{Bool, false}
+use mathlib.Core.List.{List}
 use mathlib.Core.Option.{Option, none}
-use Prim.Native.Nat.{ℕ, _≤_, _<_}
+use Prim.Native.Nat.{ℕ, _<_}
 use native.Mathlib.Omega.{arith}
-use lib.Dec.{ltb}
 use lib.ListN.{length, getD}
 use Rattle.general.specs.Sums.{sumTo, only}
-use Rattle.general.specs.Tests.{bit, bitsSet}
+use Rattle.general.specs.Tests.{bitsSet}
 use Rattle.general.proofs.Sums.{sumTo-same}
-use Rattle.general.proofs.Tests.{eqb-same, ltb-yes}
+use Rattle.general.proofs.Tests.{ltb-yes}
 use Rattle.rules.specs.Answers.{Answer}
 use Rattle.rules.specs.Basin.{Basin}
 use Rattle.rules.specs.Tally.{Start, Tally, begun, standing, pending}
@@ -23,8 +22,8 @@ use Rattle.rules.proofs.Shortness.{count-places}
 use Rattle.rules.specs.declared.Verdict.the-variants.{Accepted as AcceptedFile}
 use Rattle.records.specs.Records.{basinOf}
 use Rattle.filecheck.specs.Check.{checkOf}
-use Rattle.places.specs.Board.{boardLength, wordAt}
-use Rattle.boards.specs.Board.{wordOf, possible, boardFits}
+use Rattle.places.specs.Board.{wordAt}
+use Rattle.boards.specs.Board.{wordOf}
 use Rattle.boards.proofs.Board.{bit-word, board-length, word-place}
 use Rattle.stock.specs.Stock.{stockRefusal}
 use Rattle.stock.specs.Months as call

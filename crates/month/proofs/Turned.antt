@@ -4,7 +4,6 @@ use mathlib.Core.List.{List, [], _∷_}
 use mathlib.Core.Path.{_≡_, refl, ap, _∙_}
 use Prim.Native.Nat.{ℕ, suc, _≤_}
 use native.Mathlib.Omega.{arith}
-use lib.Dec.{eqb}
 use Rattle.general.specs.Sums.{only, sumOver}
 use Rattle.general.specs.Tables.{tab, All}
 use Rattle.general.proofs.Tests.{eqb-other}

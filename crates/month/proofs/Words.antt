@@ -9,7 +9,7 @@ use lib.Dec.{eqb}
 use lib.ListN.{length, getD, set, replicate, getD-replicate, length-replicate}
 use Rattle.general.specs.Sums.{sumTo, only}
 use Rattle.general.specs.Tables.{tab}
-use Rattle.general.specs.Tests.{bit, withBit}
+use Rattle.general.specs.Tests.{bit}
 use Rattle.general.proofs.Bits.{bit-none}
 use Rattle.general.proofs.Lists.{getD-falses}
 use Rattle.general.proofs.Sums.{sumTo-same, sumTo-over}
@@ -20,7 +20,7 @@ use Rattle.rules.specs.Month.{MonthRun, noGrant, grantAt, reasonNumber, isShort
 use Rattle.rules.proofs.Months.{turns-length}
 use Rattle.turns.specs.Lines.{Served}
 use Rattle.turns.specs.State.{stateOf, Setting}
-use Rattle.places.specs.Board.{duePlace, wordPlace, monthAt, dueAt, wordAt}
+use Rattle.places.specs.Board.{wordPlace, monthAt, dueAt, wordAt}
 use Rattle.places.proofs.BoardPlaces.{word-as-due, place-read}
 use Rattle.boards.specs.Board.{carriedOf, wordOf, possible}
 use Rattle.boards.proofs.Board.{word-none, word-put}
@@ -43,7 +43,7 @@ module _ (b : Basin) (st t rs : List ℕ) (pa : List (List ℕ)) (ri : List ℕ)
   october = eqb (monthAt bd) 0
 
   -- no turn touches a word: it stands where rows past the last would have their dues
-  pub word-served : (i : ℕ) → i < 256 → wordAt bd₂ i ≡ cond october 0 (wordAt bd i)
+  word-served : (i : ℕ) → i < 256 → wordAt bd₂ i ≡ cond october 0 (wordAt bd i)
   word-served i o =
       let u : ℕ = 64 + i / 11 in
       let k : ℕ = i % 11 in

@@ -9,7 +9,6 @@ use Rattle.general.proofs.Tables.{tab-length, tab-at}
 use Rattle.rules.specs.Basin.{Basin}
 use Rattle.rules.specs.Turn.{Turn}
 use Rattle.rules.specs.Month.{Carried, openingShorts, noted, month}
-use Rattle.rules.specs.Shortness.{shortsOf}
 
 -- twelve months of each right
 pub record Noted (b : Basin) (shorts : List (List Bool)) : Type 0 where

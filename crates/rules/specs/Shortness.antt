@@ -1,5 +1,5 @@
 -- How often a right was short in the present water year, by the grants (02, No. 6). The year that September ends is the present one until October is run.
-use mathlib.Core.Bool.{Bool, true, false, not, cond, _||_}
+use mathlib.Core.Bool.{Bool, false, not, cond, _||_}
 use mathlib.Core.List.{List, [], _∷_}
 use Prim.Native.Nat.{ℕ, _+_}
 use lib.Dec.{leb, ltb, eqb}

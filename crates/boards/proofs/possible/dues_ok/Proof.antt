@@ -7,14 +7,14 @@ use borrow.Author.Needs.{needs}
 use denote.Ref.{now}
 use lib.Dec.{ltb}
 use Rattle.general.specs.Tests.{_and_, allTo}
-use Rattle.places.specs.Board.{duesOf}
+use Rattle.places.specs.Board.{duesOf, wordsFrom}
 use Rattle.boards.specs.Bodies.{rowOk, duesOk, haveBits}
 use Rattle.boards.proofs.Bodies.{dues-parts}
 use Rattle.boards.proofs.possible.dues_ok.Statement.{statement}
 use Rattle.boards.proofs.possible.dues_ok.Tie as tie
 
 -- the rows that there are, and what stands past them
-ruled : (n : ℕ) (board : List ℕ) (p x : ℕ) {a b : Bool} → n ≤ 64 → p ≡ duesOf n → a ≡ allTo n (rowOk board) → ((k : ℕ) → ltb x (2 ^ k) ≡ haveBits k board p (970 - p)) → b ≡ (a and ltb x 1) → b ≡ duesOk n board
+ruled : (n : ℕ) (board : List ℕ) (p x : ℕ) {a b : Bool} → n ≤ 64 → p ≡ duesOf n → a ≡ allTo n (rowOk board) → ((k : ℕ) → ltb x (2 ^ k) ≡ haveBits k board p (wordsFrom - p)) → b ≡ (a and ltb x 1) → b ≡ duesOk n board
 ruled n board p x h ep ea ex eb = cc (dues-parts n board h, ex 0)
 
 dues-of-requires : tie.Need-dues-of-requires

@@ -3,7 +3,7 @@
 use mathlib.Core.Bool.{Bool, true, false}
 use mathlib.Core.List.{List}
 use mathlib.Core.Path.{_≡_, refl, sym, ap, _∙_}
-use Prim.Native.Nat.{ℕ, _+_, _-_, _/_, _^_, _≤_, _<_}
+use Prim.Native.Nat.{ℕ, _+_, _-_, _/_, _^_, _≤_}
 use native.Mathlib.Omega.{arith}
 use borrow.Author.Needs.{needs}
 use denote.Ref.{now}
@@ -112,8 +112,8 @@ returns c =
     let middle : ℕ = s .to - half in
     let whole : l .j ≡ half = omega arith in
     λ k. l .inv .3 k
-        ∙ ap (λ (j : ℕ). haveBits k (now (s .board)) (s .from) j and haveBits k (now (s .board)) middle j) whole
-        ∙ join-all (now (s .board)) (s .from) (s .to) half middle (c .before .before .pre .1) refl refl k
+    ∙ ap (λ (j : ℕ). haveBits k (now (s .board)) (s .from) j and haveBits k (now (s .board)) middle j) whole
+    ∙ join-all (now (s .board)) (s .from) (s .to) half middle (c .before .before .pre .1) refl refl k
 
 pub joined-spec : {M : Type 1} → statement M
 joined-spec =

@@ -8,15 +8,15 @@ use denote.Ref.{now}
 use lib.Dec.{ltb}
 use Rattle.general.proofs.Tests.{ltb-yes}
 use Rattle.general.specs.Tests.{allTo}
-use Rattle.places.specs.Board.{duesOf}
+use Rattle.places.specs.Board.{duesFrom, duesOf}
 use Rattle.boards.specs.Bodies.{rowOk, haveBits}
 use Rattle.boards.proofs.Bodies.{rows-small}
 use Rattle.boards.proofs.possible.rows_ok.Statement.{statement}
 use Rattle.boards.proofs.possible.rows_ok.Tie as tie
 
 -- what is joined is small
-small : (n : ℕ) (board : List ℕ) (p x : ℕ) → p ≡ duesOf n → ((k : ℕ) → ltb x (2 ^ k) ≡ haveBits k board 266 (p - 266)) → x < 137438953472 → true ≡ allTo n (rowOk board)
-small n board p x ep ex h = rows-small n board (ap (λ (q : ℕ). haveBits 37 board 266 (q - 266)) (sym ep) ∙ sym (ex 37) ∙ ltb-yes x (2 ^ 37) h)
+small : (n : ℕ) (board : List ℕ) (p x : ℕ) → p ≡ duesOf n → ((k : ℕ) → ltb x (2 ^ k) ≡ haveBits k board duesFrom (p - duesFrom)) → x < 137438953472 → true ≡ allTo n (rowOk board)
+small n board p x ep ex h = rows-small n board (ap (λ (q : ℕ). haveBits 37 board duesFrom (q - duesFrom)) (sym ep) ∙ sym (ex 37) ∙ ltb-yes x (2 ^ 37) h)
 
 dues-of-requires : tie.Need-dues-of-requires
 dues-of-requires c κs = search needs

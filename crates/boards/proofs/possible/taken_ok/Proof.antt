@@ -8,7 +8,7 @@ use borrow.Author.Needs.{needs}
 use denote.Ref.{now}
 use lib.Dec.{ltb}
 use Rattle.general.specs.Tests.{_and_}
-use Rattle.places.specs.Board.{takenPlace}
+use Rattle.places.specs.Board.{takenPlace, duesFrom}
 use Rattle.records.specs.Records.{rightCount}
 use Rattle.boards.specs.Bodies.{takenOk, heldOk, haveBits}
 use Rattle.boards.proofs.Bodies.{taken-parts}
@@ -16,8 +16,8 @@ use Rattle.boards.proofs.possible.taken_ok.Statement.{statement}
 use Rattle.boards.proofs.possible.taken_ok.Tie as tie
 
 -- the rights that there are, and what stands past them
-ruled : (ri board : List ℕ) (p x : ℕ) {a b : Bool} → rightCount ri ≤ 256 → p ≡ takenPlace (rightCount ri) → a ≡ heldOk ri board → ((k : ℕ) → ltb x (2 ^ k) ≡ haveBits k board p (266 - p)) → b ≡ (a and ltb x 1) → b ≡ takenOk ri board
-ruled ri board p x h ep ea ex eb = let past : 266 - p ≡ 256 - rightCount ri = omega (arith, ep) in cc (taken-parts ri board h, ex 0, past)
+ruled : (ri board : List ℕ) (p x : ℕ) {a b : Bool} → rightCount ri ≤ 256 → p ≡ takenPlace (rightCount ri) → a ≡ heldOk ri board → ((k : ℕ) → ltb x (2 ^ k) ≡ haveBits k board p (duesFrom - p)) → b ≡ (a and ltb x 1) → b ≡ takenOk ri board
+ruled ri board p x h ep ea ex eb = let past : duesFrom - p ≡ 256 - rightCount ri = omega (arith, ep) in cc (taken-parts ri board h, ex 0, past)
 
 taken-place-requires : tie.Need-taken-place-requires
 taken-place-requires c κs = search needs

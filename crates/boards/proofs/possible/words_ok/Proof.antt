@@ -8,7 +8,7 @@ use borrow.Author.Needs.{needs}
 use denote.Ref.{now}
 use lib.Dec.{ltb}
 use Rattle.general.specs.Tests.{_and_}
-use Rattle.places.specs.Board.{wordPlace}
+use Rattle.places.specs.Board.{wordsFrom, wordPlace, boardLength}
 use Rattle.boards.specs.Bodies.{wordsOk, haveBits}
 use Rattle.boards.proofs.Bodies.{words-parts}
 use Rattle.boards.proofs.possible.words_ok.Statement.{statement}
@@ -16,10 +16,10 @@ use Rattle.boards.proofs.possible.words_ok.Tie as tie
 
 -- the rights that there are, and what stands past them
 ruled : (n : ℕ) (board : List ℕ) (p x y : ℕ) {b : Bool} → n ≤ 256 → p ≡ wordPlace n
-    → ((k : ℕ) → ltb x (2 ^ k) ≡ haveBits k board 970 (p - 970)) → ((k : ℕ) → ltb y (2 ^ k) ≡ haveBits k board p (1226 - p)) → b ≡ (ltb x 4096 and ltb y 1) → b ≡ wordsOk n board
+    → ((k : ℕ) → ltb x (2 ^ k) ≡ haveBits k board wordsFrom (p - wordsFrom)) → ((k : ℕ) → ltb y (2 ^ k) ≡ haveBits k board p (boardLength - p)) → b ≡ (ltb x 4096 and ltb y 1) → b ≡ wordsOk n board
 ruled n board p x y h ep ex ey eb =
-    let used : p - 970 ≡ n = omega (arith, ep) in
-    let past : 1226 - p ≡ 256 - n = omega (arith, ep) in
+    let used : p - wordsFrom ≡ n = omega (arith, ep) in
+    let past : boardLength - p ≡ 256 - n = omega (arith, ep) in
     cc (words-parts n board h, ex 12, ey 0, used, past)
 
 word-place-requires : tie.Need-word-place-requires

@@ -1,7 +1,7 @@
 -- `closing::noting::note_shorts` meets its contract. The loop's invariant: the words passed are noted, the short ones counted. Assumes nothing.
 use mathlib.Core.List.{List}
 use mathlib.Core.Path.{_≡_, ap, _∙_, subst}
-use mathlib.Core.Bool.{Bool, not}
+use mathlib.Core.Bool.{not}
 use Prim.Native.Nat.{ℕ, _+_, _-_, _≤_, _<_}
 use native.Mathlib.Omega.{arith}
 use borrow.Author.Needs.{needs}
@@ -11,7 +11,7 @@ use lib.ListN.{getD}
 use Rattle.general.specs.Sums.{only}
 use Rattle.general.specs.Tests.{withBit}
 use Rattle.general.proofs.Loops.{total-none, total-more}
-use Rattle.places.specs.Board.{wordPlace, wordAt}
+use Rattle.places.specs.Board.{wordPlace}
 use Rattle.places.specs.Report.{fromRiverPlace}
 use Rattle.closing.specs.Noting.{hasReason, reasonsIn, CanNote, WordsNoted}
 use Rattle.closing.proofs.Noted.{noted-none, noted-at}
@@ -98,7 +98,7 @@ loop-again c =
       omega (arith, l .inv .1, c .one-if .ensures .1),
       reasons-more (now (s .report)) (l .i) (l .shorts) (q .result) _ (l .inv .2) (q .ensures) (c .one-if .ensures .0),
       noted-at (s .m) (now (s .report)) (now (s .board)) (l .i) (omega (arith, c .before .before .before .before .before .before .before .before .before .before .pre .few)) (c .before .before .before .before .before .before .before .before .before .before .pre .size) (l .board) (l .inv .3) (p .result) _ (p .ensures)
-      (read-at (now (s .report)) (s .m) (l .i) (p .result) (q .result) _ (l .board) (q .ensures) (c .before .put-bit .ensures)),
+          (read-at (now (s .report)) (s .m) (l .i) (p .result) (q .result) _ (l .board) (q .ensures) (c .before .put-bit .ensures)),
     )
 
 same-length : tie.Need-same-length Inv-loop μ-loop

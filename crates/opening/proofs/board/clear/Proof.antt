@@ -1,5 +1,4 @@
 -- `opening::board::clear` meets its contract. The loop's invariant: the places passed are done, the others as they were. Assumes nothing.
-use mathlib.Core.Path.{_≡_}
 use Prim.Native.Nat.{_-_, _≤_}
 use native.Mathlib.Omega.{arith}
 use borrow.Author.Needs.{needs}

@@ -1,12 +1,9 @@
 -- `stock::months::short_months` meets its contract. Assumes nothing.
-use mathlib.Core.List.{List}
-use mathlib.Core.Path.{_≡_, ap, _∙_}
-use Prim.Native.Nat.{ℕ}
+use mathlib.Core.Path.{ap}
 use native.Mathlib.Omega.{arith}
 use borrow.Author.Needs.{needs}
 use denote.Ref.{now}
 use lib.Count.{ones}
-use Rattle.places.specs.Board.{boardLength}
 use Rattle.places.proofs.BoardPlaces.{place-read}
 use Rattle.records.specs.Records.{rightCount}
 use Rattle.stock.proofs.Answers.{stock-clear}
