@@ -5,9 +5,10 @@ use mathlib.Core.Path.{_≡_, ap, _∙_}
 use Prim.Native.Nat.{ℕ, suc, _^_, _≤_, _<_}
 use native.Mathlib.Decide.{decLt}
 use native.Mathlib.Omega.{arith}
-use lib.Dec.{ltb}
+use lib.Dec.{leb, ltb}
 use lib.ListN.{length, getD, List·getD-eq-default}
 use Rattle.general.specs.Sums.{only}
+use Rattle.general.specs.Tests.{allTo}
 use Rattle.general.proofs.Lists.{all-at-place}
 use Rattle.general.proofs.Search.{all-at, all-make}
 use Rattle.general.proofs.Tests.{leb-yes, ltb-yes, ltb-no, both-of, and-of, le-of, lt-of, only-le}
@@ -24,30 +25,43 @@ use Rattle.boards.proofs.Board.{month-place, storage-place, marks-place
 
 -- ---- what a possible board holds at most; nothing at places that the basin does not have
 
+-- each test of it by itself
+record Tests (b : Basin) (bd : List ℕ) : Type 0 where
+  month : ltb (monthAt bd) 12 ≡ true
+  storages : allTo 8 (λ v. leb (storageAt bd v) ((reservoirAt b v) .capacity)) ≡ true
+  marks : ltb (marksAt bd) (2 ^ length (b .reservoirs)) ≡ true
+  taken : allTo 256 (λ i. leb (takenAt bd i) ((rightAt b i) .limit)) ≡ true
+  dues : allTo 64 (λ w. allTo 11 (λ k. leb (dueAt bd w (suc k)) (only (ltb w (rows b)) (mostDue (suc k))))) ≡ true
+  words : allTo 256 (λ i. ltb (wordAt bd i) (2 ^ only (ltb i (length (b .rights))) 12)) ≡ true
+
+tests : (b : Basin) (bd : List ℕ) → possible b bd ≡ true → Tests b bd
+unfolding possible
+tests b bd can =
+    let five = both-of can in
+    let four = both-of (five .0) in
+    let three = both-of (four .0) in
+    let two = both-of (three .0) in
+    let one = both-of (two .0) in
+    record { month = one .0; storages = one .1; marks = two .1; taken = three .1; dues = four .1; words = five .1 }
+
 module _ (b : Basin) (bd : List ℕ) (can : possible b bd ≡ true) where
   pub month-most : monthAt bd < 12
-  unfolding possible
-  month-most = lt-of {m = monthAt bd} {n = 12} ((both-of ((both-of ((both-of ((both-of ((both-of can) .0)) .0)) .0)) .0)) .0)
+  month-most = lt-of {m = monthAt bd} {n = 12} (tests b bd can .month)
 
   pub storage-most : (v : ℕ) → v < 8 → storageAt bd v ≤ (reservoirAt b v) .capacity
-  unfolding possible
-  storage-most v h = le-of {m = storageAt bd v} {n = (reservoirAt b v) .capacity} (all-at 8 _ ((both-of ((both-of ((both-of ((both-of ((both-of can) .0)) .0)) .0)) .0)) .1) v h)
+  storage-most v h = le-of {m = storageAt bd v} {n = (reservoirAt b v) .capacity} (all-at 8 _ (tests b bd can .storages) v h)
 
   pub marks-most : marksAt bd < 2 ^ length (b .reservoirs)
-  unfolding possible
-  marks-most = lt-of {m = marksAt bd} {n = 2 ^ length (b .reservoirs)} ((both-of ((both-of ((both-of ((both-of can) .0)) .0)) .0)) .1)
+  marks-most = lt-of {m = marksAt bd} {n = 2 ^ length (b .reservoirs)} (tests b bd can .marks)
 
   pub taken-most : (i : ℕ) → i < 256 → takenAt bd i ≤ (rightAt b i) .limit
-  unfolding possible
-  taken-most i h = le-of {m = takenAt bd i} {n = (rightAt b i) .limit} (all-at 256 _ ((both-of ((both-of ((both-of can) .0)) .0)) .1) i h)
+  taken-most i h = le-of {m = takenAt bd i} {n = (rightAt b i) .limit} (all-at 256 _ (tests b bd can .taken) i h)
 
   pub due-most : (w k : ℕ) → w < 64 → k < 11 → dueAt bd w (suc k) ≤ only (ltb w (rows b)) (mostDue (suc k))
-  unfolding possible
-  due-most w k h l = le-of {m = dueAt bd w (suc k)} {n = only (ltb w (rows b)) (mostDue (suc k))} (all-at 11 _ (all-at 64 _ ((both-of ((both-of can) .0)) .1) w h) k l)
+  due-most w k h l = le-of {m = dueAt bd w (suc k)} {n = only (ltb w (rows b)) (mostDue (suc k))} (all-at 11 _ (all-at 64 _ (tests b bd can .dues) w h) k l)
 
   word-most : (i : ℕ) → i < 256 → wordAt bd i < 2 ^ only (ltb i (length (b .rights))) 12
-  unfolding possible
-  word-most i h = lt-of {m = wordAt bd i} {n = 2 ^ only (ltb i (length (b .rights))) 12} (all-at 256 _ ((both-of can) .1) i h)
+  word-most i h = lt-of {m = wordAt bd i} {n = 2 ^ only (ltb i (length (b .rights))) 12} (all-at 256 _ (tests b bd can .words) i h)
 
   pub word-small : (i : ℕ) → i < 256 → wordAt bd i < 4096
   word-small i h = omega (arith, word-most i h, twelve (ltb i (length (b .rights))))

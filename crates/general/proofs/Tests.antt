@@ -1,7 +1,7 @@
 -- From a test to the fact and back. Assumes nothing.
 use mathlib.Core.Path.{_≡_, refl, sym, subst}
 use mathlib.Core.Logic.{_≢_}
-use mathlib.Core.Bool.{Bool, true, false, not}
+use mathlib.Core.Bool.{Bool, true, false, not, cond}
 use Prim.Native.Nat.{ℕ, _+_, _≤_, _<_}
 use native.Mathlib.Omega.{arith}
 use lib.Dec.{T, leb, ltb, eqb, eqb→eq, eqb-refl, leb→le, le→leb, ltb→lt, lt→ltb, nltb→le}
@@ -92,6 +92,11 @@ between-of e = let f = both-of e in (le-of (f .0), le-of (f .1))
 pub only-le : (t : Bool) (x : ℕ) → only t x ≤ x
 only-le true x = omega arith
 only-le false x = omega arith
+
+-- what may become 0 is no larger for it
+pub cleared-le : (t : Bool) (x : ℕ) → cond t 0 x ≤ x
+cleared-le true x = omega arith
+cleared-le false x = omega arith
 
 pub only-yes : (t : Bool) (x : ℕ) → t ≡ true → only t x ≡ x
 only-yes true x e = refl

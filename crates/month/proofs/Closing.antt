@@ -11,7 +11,7 @@ use lib.Seq.{getD-set-same, getD-set-other}
 use Rattle.general.specs.Sums.{only}
 use Rattle.general.specs.Tables.{tab}
 use Rattle.general.proofs.Tables.{tab-at, tab-past}
-use Rattle.general.proofs.Tests.{eqb-other, ltb-yes, ltb-no}
+use Rattle.general.proofs.Tests.{cleared-le, eqb-other, ltb-yes, ltb-no}
 use Rattle.rules.specs.Basin.{Basin, rows, reservoirAt}
 use Rattle.rules.specs.Turn.{State}
 use Rattle.rules.specs.Month.{MonthRun, opening, returnsAt, evaporation, evaporations, evaporated, nextMonth, month}
@@ -168,15 +168,11 @@ module _ (b : Basin) (st t rs : List ℕ) (pa : List (List ℕ)) (ri : List ℕ)
     taken-told : (i : ℕ) → i < 256 → takenAt bd₄ i ≡ getD ((h .carried) .taken) i 0
     taken-told i o = pick (decLt i (length (b .rights)))
       where
-        none : (october : Bool) → cond october 0 (takenAt bd i) ≤ takenAt bd i
-        none true = omega arith
-        none false = omega arith
-
         pick : Dec (i < length (b .rights)) → takenAt bd₄ i ≡ getD ((h .carried) .taken) i 0
         pick (yes y) = far (takenPlace i) (omega arith) (omega arith) ∙ sym (taken-is i y)
         pick (no y) =
             let z : length (b .rights) ≤ i = omega (arith, y) in
-            let e : takenAt (opened bd) i ≡ 0 = omega (arith, opened-taken bd i o, none (eqb (monthAt bd) 0), no-taken b bd can i o z) in
+            let e : takenAt (opened bd) i ≡ 0 = omega (arith, opened-taken bd i o, cleared-le (eqb (monthAt bd) 0) (takenAt bd i), no-taken b bd can i o z) in
             far (takenPlace i) (omega arith) (omega arith) ∙ q .kept .no-right i z o ∙ e ∙ sym (taken-past i z)
 
     month-told : monthAt bd₄ ≡ (h .carried) .m

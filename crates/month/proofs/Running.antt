@@ -11,7 +11,7 @@ use Rattle.general.specs.Sums.{sum}
 use Rattle.general.specs.Tables.{tab}
 use Rattle.general.proofs.Lists.{all-at-place, getD-zeros}
 use Rattle.general.proofs.Tables.{tab-length, tab-at}
-use Rattle.general.proofs.Tests.{only-le, by-eqb}
+use Rattle.general.proofs.Tests.{cleared-le, only-le, by-eqb}
 use Rattle.rules.specs.Accepted.{GoodPattern, Accepted}
 use Rattle.rules.specs.Basin.{Basin, rows}
 use Rattle.rules.specs.Month.{opening, nextMonth}
@@ -95,10 +95,6 @@ module _ (b : Basin) (acc : Accepted b) (bd : List ℕ) (can : possible b bd ≡
   opened-small : (p : ℕ) → getD (opened bd) p 0 ≤ 1_000_000_000_000_000_000
   opened-small p = pick (decLt p boardLength)
     where
-      less : (o : Bool) (x : ℕ) → cond o 0 x ≤ x
-      less true x = omega arith
-      less false x = omega arith
-
       next : (w k : ℕ) → w < 64 → k < 11 → cond (eqb (suc k) 11) 0 (dueAt bd w (suc (suc k))) ≤ 2_816_000_000_000
       next w k l m = by-eqb (suc k) 11 (λ t. cond t 0 (dueAt bd w (suc (suc k))) ≤ 2_816_000_000_000) (λ e. omega arith) (λ e. due-small w (suc k) l (omega (arith, m, e)))
 
@@ -106,10 +102,10 @@ module _ (b : Basin) (acc : Accepted b) (bd : List ℕ) (can : possible b bd ≡
       told = by-places (λ p. getD (opened bd) p 0 ≤ 1_000_000_000_000_000_000)
           (omega (arith, opened-month bd, month-most b bd can))
           (λ v l. omega (arith, opened-storage bd v l, storage-small v l))
-          (omega (arith, opened-marks bd, less (eqb (monthAt bd) 0) (marksAt bd), marks-low))
-          (λ i l. omega (arith, opened-taken bd i l, less (eqb (monthAt bd) 0) (takenAt bd i), taken-small i l))
+          (omega (arith, opened-marks bd, cleared-le (eqb (monthAt bd) 0) (marksAt bd), marks-low))
+          (λ i l. omega (arith, opened-taken bd i l, cleared-le (eqb (monthAt bd) 0) (takenAt bd i), taken-small i l))
           (λ w k l m. omega (arith, opened-due bd w k l m, next w k l m))
-          (λ i l. omega (arith, opened-short bd i l, less (eqb (monthAt bd) 0) (wordAt bd i), word-small b bd can i l))
+          (λ i l. omega (arith, opened-short bd i l, cleared-le (eqb (monthAt bd) 0) (wordAt bd i), word-small b bd can i l))
 
       pick : Dec (p < boardLength) → getD (opened bd) p 0 ≤ 1_000_000_000_000_000_000
       pick (yes h) = told p h
@@ -118,12 +114,8 @@ module _ (b : Basin) (acc : Accepted b) (bd : List ℕ) (can : possible b bd ≡
   opened-within : Within b (opened bd)
   opened-within = record {
     storages = λ v h. let l : v < 8 = omega (arith, h, acc .few-reservoirs) in omega (arith, opened-storage bd v l, storage-most b bd can v l);
-    taken = λ i h. let l : i < 256 = omega (arith, h, acc .few-rights) in omega (arith, opened-taken bd i l, less (eqb (monthAt bd) 0) i, taken-most b bd can i l);
+    taken = λ i h. let l : i < 256 = omega (arith, h, acc .few-rights) in omega (arith, opened-taken bd i l, cleared-le (eqb (monthAt bd) 0) (takenAt bd i), taken-most b bd can i l);
   }
-    where
-      less : (o : Bool) (i : ℕ) → cond o 0 (takenAt bd i) ≤ takenAt bd i
-      less true i = omega arith
-      less false i = omega arith
 
 -- ---- the steps
 

@@ -14,6 +14,7 @@ use Rattle.general.proofs.Bits.{bit-none}
 use Rattle.general.proofs.Lists.{getD-falses}
 use Rattle.general.proofs.Sums.{sumTo-same, sumTo-over}
 use Rattle.general.proofs.Tables.{tab-at, tab-past, tab-of}
+use Rattle.general.proofs.Tests.{cleared-le}
 use Rattle.rules.specs.Basin.{Basin, rows}
 use Rattle.rules.specs.Turn.{Grant, Turn}
 use Rattle.rules.specs.Month.{MonthRun, noGrant, grantAt, reasonNumber, isShort, openingShorts, noted, opening, month, shortCount}
@@ -59,11 +60,7 @@ module _ (b : Basin) (st t rs : List ℕ) (pa : List (List ℕ)) (ri : List ℕ)
   few = w .accepted .few-rights
 
   pub word-fits : (i : ℕ) → i < n → wordAt bd₂ i < 4096
-  word-fits i o = let l : i < 256 = omega (arith, o, few) in omega (arith, word-served i l, less october, word-small b bd can i l)
-    where
-      less : (t : Bool) → cond t 0 (wordAt bd i) ≤ wordAt bd i
-      less true = omega arith
-      less false = omega arith
+  word-fits i o = let l : i < 256 = omega (arith, o, few) in omega (arith, word-served i l, cleared-le october (wordAt bd i), word-small b bd can i l)
 
   -- its bits are the months noted as the month opens
   bits-are : (i : ℕ) → i < n → tab 12 (bit (wordAt bd₂ i)) ≡ getD (openingShorts b (carriedOf b bd)) i []
@@ -111,10 +108,6 @@ module _ (b : Basin) (st t rs : List ℕ) (pa : List (List ℕ)) (ri : List ℕ)
     pub word-told : (i : ℕ) → i < 256 → wordAt bd₃ i ≡ wordOf (getD ((h .carried) .shorts) i [])
     word-told i l = pick (decLt i n)
       where
-        none : (t : Bool) → cond t 0 (wordAt bd i) ≤ wordAt bd i
-        none true = omega arith
-        none false = omega arith
-
         pick : Dec (i < n) → wordAt bd₃ i ≡ wordOf (getD ((h .carried) .shorts) i [])
         pick (yes o) =
             e .noted i o
@@ -122,5 +115,5 @@ module _ (b : Basin) (st t rs : List ℕ) (pa : List (List ℕ)) (ri : List ℕ)
             ∙ ap wordOf (sym (left-noted i o))
         pick (no o) =
             let past : n ≤ i = omega (arith, o) in
-            let empty : wordAt bd₂ i ≡ 0 = omega (arith, word-served i l, none october, no-word b bd can i l past) in
+            let empty : wordAt bd₂ i ≡ 0 = omega (arith, word-served i l, cleared-le october (wordAt bd i), no-word b bd can i l past) in
             e .beyond (wordPlace i) (omega (arith, past)) ∙ empty ∙ sym (ap wordOf (left-past i past) ∙ word-none)

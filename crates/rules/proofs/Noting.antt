@@ -8,14 +8,14 @@ use lib.ListN.{length, getD, replicate, length-set, length-replicate, getD-repli
 use Rattle.general.proofs.Tables.{tab-length, tab-at}
 use Rattle.rules.specs.Basin.{Basin}
 use Rattle.rules.specs.Turn.{Turn}
-use Rattle.rules.specs.Month.{Carried, openingShorts, noted, month}
+use Rattle.rules.specs.Month.{Carried, nobodyShort, openingShorts, noted, month}
 
 -- twelve months of each right
 pub record Noted (b : Basin) (shorts : List (List Bool)) : Type 0 where
   pub count : length shorts ≡ length (b .rights)
   pub months : (i : ℕ) → i < length (b .rights) → length (getD shorts i []) ≡ 12
 
-pub none-noted : (b : Basin) → Noted b (replicate (length (b .rights)) (replicate 12 false))
+pub none-noted : (b : Basin) → Noted b (nobodyShort b)
 none-noted b = record {
   count = length-replicate (length (b .rights)) (replicate 12 false);
   months = λ i h. ap length (getD-replicate (length (b .rights)) i (replicate 12 false) [] h) ∙ length-replicate 12 false;
@@ -25,7 +25,7 @@ opening-noted : (b : Basin) (c : Carried) → Noted b (c .shorts) → Noted b (o
 unfolding openingShorts
 opening-noted b c n = go (eqb (c .m) 0)
   where
-    go : (t : Bool) → Noted b (cond t (replicate (length (b .rights)) (replicate 12 false)) (c .shorts))
+    go : (t : Bool) → Noted b (cond t (nobodyShort b) (c .shorts))
     go true = none-noted b
     go false = n
 

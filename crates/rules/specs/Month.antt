@@ -126,9 +126,13 @@ reasonNumber storageOut = 3
 unfoldable pub isShort : Grant → Bool
 isShort g = not (eqb (reasonNumber (g .reason)) 0)
 
--- In October a new water year begins, in which nobody has been short.
+-- a year in which nobody has been short
+abbrev pub nobodyShort : Basin → List (List Bool)
+nobodyShort b = replicate (length (b .rights)) (replicate 12 false)
+
+-- Such a year begins in October.
 unfoldable pub openingShorts : Basin → Carried → List (List Bool)
-openingShorts b c = cond (eqb (c .m) 0) (replicate (length (b .rights)) (replicate 12 false)) (c .shorts)
+openingShorts b c = cond (eqb (c .m) 0) (nobodyShort b) (c .shorts)
 
 -- Month m is noted for each right, short or not; what was noted for other months stays.
 unfoldable pub noted : Basin → ℕ → List Turn → List (List Bool) → List (List Bool)

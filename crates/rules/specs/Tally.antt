@@ -14,7 +14,7 @@ use Rattle.places.specs.Report.{reportEnd}
 use Rattle.rules.specs.declared.Verdict.the-variants.{Lists, Runoff}
 use Rattle.rules.specs.Answers.{Answer, told, orElse, unless}
 use Rattle.rules.specs.Basin.{Reservoir, Basin, rows}
-use Rattle.rules.specs.Month.{Carried, returnsAt, MonthRun, month, shortCount}
+use Rattle.rules.specs.Month.{Carried, nobodyShort, returnsAt, MonthRun, month, shortCount}
 
 pub record Call : Type 0 where
   pub runoff : List ℕ
@@ -70,7 +70,7 @@ freshCarried b = record {
   storages = map (λ (v : Reservoir). v .start) (b .reservoirs);
   marks = replicate (length (b .reservoirs)) false;
   taken = replicate (length (b .rights)) 0;
-  shorts = replicate (length (b .rights)) (replicate 12 false);
+  shorts = nobodyShort b;
 }
 
 unfoldable pub freshStart : Basin → Start
