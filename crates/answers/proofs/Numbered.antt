@@ -6,7 +6,7 @@ use mathlib.Core.Option.{Option, none, some}
 use Prim.Native.Nat.{ℕ}
 use native.Mathlib.Omega.{arith}
 use Rattle.rules.specs.declared.Verdict.{Verdict}
-use Rattle.rules.specs.declared.Verdict.the-variants.{Accepted, Layout, Station, Reservoir, Pattern, Right, Lists, Board, Runoff, Book, Year}
+use Rattle.rules.specs.declared.Verdict.the-variants.{Accepted, Layout, Station, Reservoir, Pattern, Right, Lists, Board, Runoff, Book, Year, Name, Full}
 use Rattle.rules.specs.Answers.{Answer, told, orElse, unless}
 use Rattle.rules.specs.Tally.{overAnswer}
 use Rattle.records.specs.Records.{basinOf}
@@ -52,6 +52,8 @@ verdict-numbered Board = λ e. omega (arith, e)
 verdict-numbered (Runoff i) = λ e. omega (arith, e)
 verdict-numbered Book = λ e. omega (arith, e)
 verdict-numbered Year = λ e. omega (arith, e)
+verdict-numbered Name = λ e. omega (arith, e)
+verdict-numbered Full = λ e. omega (arith, e)
 
 pub file-numbered : (f : List ℕ) → Numbered (fileRefusal f)
 unfolding fileRefusal

@@ -27,6 +27,8 @@ fn number(verdict: Verdict) -> u64
         Verdict::Runoff(_) => 8,
         Verdict::Book => 9,
         Verdict::Year => 10,
+        Verdict::Name => 11,
+        Verdict::Full => 12,
     }
 }
 
@@ -46,6 +48,8 @@ fn place(verdict: Verdict) -> usize
         Verdict::Runoff(i) => i,
         Verdict::Book => 0,
         Verdict::Year => 0,
+        Verdict::Name => 0,
+        Verdict::Full => 0,
     }
 }
 

@@ -9,3 +9,4 @@ pub mod Bits
 pub mod Routes
 pub mod Fill
 pub mod Entries
+pub mod Parts

@@ -2,3 +2,4 @@ pub mod Sums
 pub mod Tables
 pub mod Tests
 pub mod Routes
+pub mod Parts

@@ -1,8 +1,7 @@
 -- A run of calls is accounted for. Assumes nothing.
-use mathlib.Core.Path.{_≡_, refl, ap, _∙_, subst}
+use mathlib.Core.Path.{_≡_, refl, subst}
 use mathlib.Core.Bool.{true}
-use mathlib.Core.List.{List, [], _∷_, map}
-use mathlib.Core.Option.{Option, none}
+use mathlib.Core.List.{List, [], _∷_}
 use Prim.Native.Nat.{ℕ}
 use lib.Dec.{ltb}
 use lib.ListN.{length}
@@ -12,102 +11,78 @@ use Rattle.general.proofs.Tables.{tab-same}
 use Rattle.general.proofs.Tests.{ltb-yes, only-yes}
 use Rattle.rules.specs.Basin.{Basin, rows}
 use Rattle.rules.specs.Month.{month}
-use Rattle.rules.specs.Tally.{Start, Tally, begun, standing}
-use Rattle.rules.specs.Years.{Entry, countsAs, afterEntry, afterEntries}
-use Rattle.rules.specs.Answers.{Answer, orElse, unless}
+use Rattle.rules.specs.Years.{monthly, yearly}
 use Rattle.rules.specs.Water.{MonthSound}
 use Rattle.rules.specs.Accepted.{Accepted}
-use Rattle.rules.specs.Theorems.{Possible}
-use Rattle.rules.proofs.Possible.{begun-possible, calls-possible}
-use Rattle.rules.proofs.Theorems.{water, checkpoints}
+use Rattle.rules.proofs.Theorems.{checkpoints}
 use Rattle.rules.specs.declared.Verdict.the-variants.{Accepted as AcceptedFile}
 use Rattle.records.specs.Records.{basinOf}
 use Rattle.filecheck.specs.Check.{checkOf}
 use Rattle.boards.specs.Board.{carriedOf, possible}
 use Rattle.places.specs.Board.{boardLength, dueAt}
-use Rattle.answers.proofs.Answers.{no-refusal}
 use Rattle.month.specs.Month.{runOf}
-use Rattle.stock.specs.Months.{shortMonthsOf}
-use Rattle.fresh.specs.Fresh.{freshRefusal, freshBoard, freshSettled, freshOf}
-use Rattle.fresh.proofs.Start.{fresh-size, fresh-can}
-use Rattle.ledger.specs.Account.{Event, monthEvent, yearEvent, leftBy, entryOf, Meets, Run, boardLeft, startOf, tallyBoard, Follows, AllFollow, Accounted, FreshBoard}
-use Rattle.ledger.proofs.Tally.{start-possible, tally-begins, fresh-starts}
-use Rattle.ledger.proofs.Shorts.{told-short}
-use Rattle.ledger.proofs.Months.{follow-month}
+use Rattle.ledger.specs.Runs.{Event, monthEvent, yearEvent, freshEvent, recallEvent, leftBy, Meets, Run, boardLeft}
+use Rattle.ledger.specs.Reports.{callOf}
+use Rattle.ledger.specs.Account.{startOf, Standing, tallied, astray, standsOn, boardThere, runIn, afterEvent, afterEvents, Follows, AllFollow, Accounted}
+use Rattle.ledger.proofs.Tally.{start-possible}
+use Rattle.ledger.proofs.Months.{tally-length, follow-month}
 use Rattle.ledger.proofs.Years.{follow-year}
+use Rattle.ledger.proofs.Astray.{astray-month, astray-year}
+use Rattle.ledger.proofs.Standing.{reached-more, reached-possible, Stands, stands-kept, starts-well, starts-there, fresh-stands, follow-fresh, anew-stands, follow-recall}
 
--- ---- the fresh board, by its refusals
-
-fresh-clear : (f board : List ℕ) → checkOf f ≡ AcceptedFile → length board ≡ boardLength → freshRefusal f board ≡ none
-unfolding freshRefusal orElse unless
-fresh-clear f board ok n = rw (no-refusal f ok, n)
-
-fresh-given : (f l : List ℕ) → (freshSettled none f l) .board ≡ freshBoard (basinOf f)
-unfolding freshSettled
-fresh-given f l = refl
-
--- ---- call for call
-
-entry-possible : (b : Basin) → Accepted b → (t : Tally) (x : Entry) → Possible b (standing b t) → Possible b (standing b (afterEntry b t x))
-unfolding afterEntry
-entry-possible b acc t x p = calls-possible b acc t (countsAs b t x) p
-
--- where every call follows the tally, the board after the run is the tally's
-left-by : (f : List ℕ) (t : Tally) (board : List ℕ) (es : List Event) → board ≡ tallyBoard (basinOf f) t → AllFollow f t es → boardLeft board es ≡ tallyBoard (basinOf f) (afterEntries (basinOf f) t (map (entryOf f) es))
-unfolding afterEntries
-left-by f t board [] e h = e
-left-by f t board (x ∷ es) e h = left-by f (afterEntry (basinOf f) t (entryOf f x)) ((leftBy x) .board) es (h .0 .board) (h .1)
+-- where every call follows, the board after the run is that of where it stands
+left-by : (f : List ℕ) (st : Standing) (board : List ℕ) (es : List Event) → board ≡ boardThere (basinOf f) st → AllFollow f st es → boardLeft board es ≡ boardThere (basinOf f) (afterEvents f st es)
+left-by f st board [] e h = e
+left-by f st board (x ∷ es) e h = left-by f (afterEvent f st x) (leftBy x) es (h .0 .board) (h .1)
 
 module _ (f : List ℕ) (ok : checkOf f ≡ AcceptedFile) (acc : Accepted (basinOf f)) where
-  follow : (t : Tally) → Possible (basinOf f) (standing (basinOf f) t) → (e : Event) → Meets f (tallyBoard (basinOf f) t) e → Follows f t e
-  follow t p (monthEvent e) m = follow-month f ok acc t p e m
-  follow t p (yearEvent e) m = follow-year f ok acc t p e m
+  abbrev b : Basin
+  b = basinOf f
 
-  all-follow : (t : Tally) → Possible (basinOf f) (standing (basinOf f) t) → (es : List Event) → Run f (tallyBoard (basinOf f) t) es → AllFollow f t es
-  all-follow t p [] r = tt
-  all-follow t p (e ∷ es) r =
-      let h : Follows f t e = follow t p e (r .0) in
-      (h, all-follow (afterEntry (basinOf f) t (entryOf f e)) (entry-possible (basinOf f) acc t (entryOf f e) p) es (subst (λ (l : List ℕ). Run f l es) (h .board) (r .1)))
+  -- ---- one call
 
-  pub accounted : (board : List ℕ) → length board ≡ boardLength → possible (basinOf f) board ≡ true → (es : List Event) → Run f board es → Accounted f board (startOf (basinOf f) board) es
-  accounted board n can es r =
-      let b : Basin = basinOf f in
-      let s : Start = startOf b board in
-      let p : Possible b s = start-possible b acc board n can in
-      let begins : board ≡ tallyBoard b (begun s) = tally-begins b acc board n can in
-      let h : AllFollow f (begun s) es = all-follow (begun s) (begun-possible b s p) es (subst (λ (l : List ℕ). Run f l es) begins r) in
-      let left : boardLeft board es ≡ tallyBoard b (afterEntries b (begun s) (map (entryOf f) es)) = left-by f (begun s) board es begins h in
-      record {
-        follows = h;
-        left = left;
-        short-months = λ i o. ap (λ (l : List ℕ). shortMonthsOf f l i) left ∙ told-short f ok acc s p (map (entryOf f) es) i o;
-        water = water b acc s p (map (entryOf f) es);
-      }
+  there-length : (st : Standing) → Stands b st → length (boardThere b st) ≡ boardLength
+  there-length (tallied t) p = tally-length b t
+  there-length (astray l) p = p .0
 
-  pub board-checkpoints : (board runoff : List ℕ) → length board ≡ boardLength → possible (basinOf f) board ≡ true → MonthSound (basinOf f) (runOf (basinOf f) runoff board)
+  follow : (st : Standing) → Stands b st → (e : Event) → Meets f (boardThere b st) e → Follows f st e
+  follow (tallied t) p (monthEvent e) m = follow-month f ok acc t (reached-possible b acc t p) e m
+  follow (tallied t) p (yearEvent e) m = follow-year f ok acc t (reached-possible b acc t p) e m
+  follow (astray l) p (monthEvent e) m = astray-month f ok l (p .0) (p .1) e m
+  follow (astray l) p (yearEvent e) m = astray-year f ok l (p .0) (p .1) e m
+  follow st p (freshEvent e) m = follow-fresh f ok acc st (boardThere b st) (there-length st p) e m
+  follow st p (recallEvent e) m = follow-recall f ok acc st (boardThere b st) (there-length st p) refl e m
+
+  stands-on : (st : Standing) → Stands b st → (e : Event) → Stands b (afterEvent f st e)
+  stands-on (tallied t) p (monthEvent e) = reached-more b t p (monthly (callOf e))
+  stands-on (tallied t) p (yearEvent e) = reached-more b t p (yearly (runIn f e))
+  stands-on (astray l) p (monthEvent e) = p
+  stands-on (astray l) p (yearEvent e) = p
+  stands-on st p (freshEvent e) = fresh-stands f ok acc
+  stands-on st p (recallEvent e) = anew-stands f ok acc st p e
+
+  -- ---- all of them
+
+  all-follow : (st : Standing) → Stands b st → (es : List Event) → Run f (boardThere b st) es → AllFollow f st es
+  all-follow st p [] r = tt
+  all-follow st p (e ∷ es) r =
+      let h : Follows f st e = follow st p e (r .0) in
+      (h, all-follow (afterEvent f st e) (stands-on st p e) es (subst (λ (l : List ℕ). Run f l es) (h .board) (r .1)))
+
+  all-stand : (st : Standing) → Stands b st → (es : List Event) → Stands b (afterEvents f st es)
+  all-stand st p [] = p
+  all-stand st p (e ∷ es) = all-stand (afterEvent f st e) (stands-on st p e) es
+
+  pub accounted : (board : List ℕ) → length board ≡ boardLength → (es : List Event) → Run f board es → Accounted f board es
+  accounted board n es r =
+      let st : Standing = standsOn b board in
+      let p : Stands b st = starts-well f ok acc board n in
+      let there : board ≡ boardThere b st = starts-there f ok acc board n in
+      let h : AllFollow f st es = all-follow st p es (subst (λ (l : List ℕ). Run f l es) there r) in
+      record { follows = h; left = left-by f st board es there h; kept = stands-kept f ok acc (afterEvents f st es) (all-stand st p es) }
+
+  pub board-checkpoints : (board runoff : List ℕ) → length board ≡ boardLength → possible b board ≡ true → MonthSound b (runOf b runoff board)
   unfolding runOf startOf
   board-checkpoints board runoff n can =
-      let b : Basin = basinOf f in
       let arriving : tab (rows b) (λ w. only (ltb w (rows b)) (dueAt board w 1)) ≡ tab (rows b) (λ w. dueAt board w 1) = tab-same (rows b) _ _ (λ w h. only-yes (ltb w (rows b)) (dueAt board w 1) (ltb-yes w (rows b) h)) in
       subst (λ (l : List ℕ). MonthSound b (month b (carriedOf b board) runoff l)) arriving (checkpoints b acc (startOf b board) (start-possible b acc board n can) runoff)
-
-  -- ---- the fresh board
-
-  fresh-board : (board : List ℕ) → length board ≡ boardLength → (freshOf f board) .board ≡ freshBoard (basinOf f)
-  unfolding freshOf freshRefusal
-  fresh-board board n =
-      let e : freshRefusal f board ≡ none = fresh-clear f board ok n in
-      ap (λ (v : Option Answer). (freshSettled v f board) .board) e ∙ given board
-    where
-      given : (l : List ℕ) → (freshSettled none f l) .board ≡ freshBoard (basinOf f)
-      given l = fresh-given f l
-
-  pub fresh-facts : (board : List ℕ) → length board ≡ boardLength → FreshBoard f board
-  fresh-facts board n =
-      let b : Basin = basinOf f in
-      let e : (freshOf f board) .board ≡ freshBoard b = fresh-board board n in
-      record {
-        size = ap (λ (l : List ℕ). length l) e ∙ fresh-size b acc;
-        is-possible = ap (possible b) e ∙ fresh-can b acc;
-        starts = ap (startOf b) e ∙ fresh-starts b acc;
-      }

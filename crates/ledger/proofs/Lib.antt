@@ -3,6 +3,8 @@ pub mod Telling
 pub mod Months
 pub mod Years
 pub mod Shorts
-pub mod Account
+pub mod Astray
+pub mod Standing
 pub mod Runs
+pub mod Account
 pub mod Theorems

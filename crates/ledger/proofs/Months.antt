@@ -23,7 +23,9 @@ use Rattle.places.specs.Board.{boardLength}
 use Rattle.answers.specs.Answers.{lentRefusal}
 use Rattle.answers.proofs.Answers.{no-refusal}
 use Rattle.month.specs.Month.{callWith, allFit, monthRefusal, runOf, Outcome, monthSettled, monthOf, MonthMeets}
-use Rattle.ledger.specs.Account.{MonthCall, monthEvent, callOf, MonthReport, tallyBoard, Follows}
+use Rattle.ledger.specs.Runs.{MonthCall, monthEvent}
+use Rattle.ledger.specs.Reports.{callOf, MonthReport}
+use Rattle.ledger.specs.Account.{tallyBoard, tallied, Follows}
 use Rattle.ledger.proofs.Tally.{tally-possible, tally-run, tally-next}
 use Rattle.ledger.proofs.Telling.{tells}
 
@@ -35,7 +37,7 @@ unfolding lentRefusal orElse unless
 lent-lists f board true acc can = rw (no-refusal f acc, can)
 lent-lists f board false acc can = rw (no-refusal f acc)
 
-lists-same : (b : Basin) (runoff board report : List ℕ) → length board ≡ boardLength → allFit b runoff board report ≡ listsFit b (callWith runoff report)
+pub lists-same : (b : Basin) (runoff board report : List ℕ) → length board ≡ boardLength → allFit b runoff board report ≡ listsFit b (callWith runoff report)
 unfolding allFit
 lists-same b runoff board report e = rw (e, eqb-same boardLength) (and-true _)
 
@@ -81,6 +83,6 @@ module _ (f : List ℕ) (ok : checkOf f ≡ AcceptedFile) (acc : Accepted (basin
   unfolding monthOf
   month-settled e m = settled e (refusal b (callOf e)) refl (m ∙ ap (λ (v : Option Answer). monthSettled v b (e .runoff) (tallyBoard b t) (e .report)) (tally-refusal (e .runoff) (e .report)))
 
-  pub follow-month : (e : MonthCall) → MonthMeets f (e .runoff) (tallyBoard b t) (e .report) (e .outcome) → Follows f t (monthEvent e)
+  pub follow-month : (e : MonthCall) → MonthMeets f (e .runoff) (tallyBoard b t) (e .report) (e .outcome) → Follows f (tallied t) (monthEvent e)
   unfolding afterEntry countsAs afterCalls entryAnswer afterCall answerOf
   follow-month e m = let s : Settled (refusal b (callOf e)) e = month-settled e m in record { answer = s .answer; report = s .report; board = s .board }

@@ -1,39 +1,45 @@
--- The theorems of specs/Account.antt, for every file that the check accepts. Assumes nothing.
-use mathlib.Core.Path.{sym, ap, _∙_, subst}
-use mathlib.Core.List.{List, map}
+-- The theorems of specs/Runs.antt, Reports.antt and Account.antt. Assumes nothing.
+use mathlib.Core.Path.{_≡_, sym, ap, _∙_, subst}
+use mathlib.Core.List.{List}
 use Prim.Native.Nat.{ℕ}
 use Rattle.rules.specs.Basin.{Basin}
-use Rattle.rules.specs.Tally.{Start, freshStart, begun}
-use Rattle.rules.specs.Years.{afterEntries}
+use Rattle.rules.specs.Tally.{Start, Tally}
+use Rattle.rules.specs.Shortness.{shortNow}
 use Rattle.rules.proofs.Theorems.{fresh}
 use Rattle.records.specs.Records.{basinOf}
 use Rattle.filecheck.proofs.Accepted.{accepted-facts}
-use Rattle.ledger.specs.Account.{TellsAll, entryOf, Accounted, Claim, FreshBoard, FreshStarts, FromFresh, ShortFromFresh, Checkpoints, OneReport, OneYear, OneRun}
+use Rattle.stock.specs.Months.{shortMonthsOf}
+use Rattle.store.specs.Calls.{Recalled}
+use Rattle.store.proofs.Theorems.{comeBack}
+use Rattle.ledger.specs.Runs.{Run, boardLeft, OneReport, OneYear, OneRun}
+use Rattle.ledger.specs.Reports.{TellsAll}
+use Rattle.ledger.specs.Account.{Standing, tallied, boardThere, Kept, KeptAt, Accounted, Claim, FreshStarts, ShortFromFresh, Untried, Checkpoints}
 use Rattle.ledger.proofs.Telling.{all-told}
-use Rattle.ledger.proofs.Account.{accounted, fresh-facts, board-checkpoints}
-use Rattle.ledger.proofs.Runs.{only-run}
-use Rattle.fresh.specs.Fresh.{freshOf}
+use Rattle.ledger.proofs.Standing.{fresh-facts}
+use Rattle.ledger.proofs.Account.{accounted, board-checkpoints}
+use Rattle.ledger.proofs.Runs.{only-run, one-run-each}
 
 pub claim : Claim
-claim f board e n can es r = accounted f e (accepted-facts f e) board n can es r
+claim f board e n es r = accounted f e (accepted-facts f e) board n es r
 
 pub tells-all : TellsAll
 tells-all b h before after n t = all-told b h before after t n
 
 pub fresh-starts : FreshStarts
-fresh-starts f board e n = fresh-facts f e (accepted-facts f e) board n
-
-pub from-fresh : FromFresh
-from-fresh f board e n es r =
-    let h : FreshBoard f board = fresh-starts f board e n in
-    let left : List ℕ = (freshOf f board) .board in
-    subst (λ (s : Start). Accounted f left s es) (h .starts) (claim f left e (h .size) (h .is-possible) es r)
+fresh-starts f e = fresh-facts f e (accepted-facts f e)
 
 pub short-from-fresh : ShortFromFresh
-short-from-fresh f board e n es r i h =
+short-from-fresh f board e n es r t at from i h =
     let b : Basin = basinOf f in
-    from-fresh f board e n es r .short-months i h
-    ∙ ap (λ (m : ℕ). record { number = 0; place = 0; months = m }) (fresh b (accepted-facts f e) .none-short ((afterEntries b (begun (freshStart b)) (map (entryOf f) es)) .months) i)
+    let c : Accounted f board es = claim f board e n es r in
+    let k : Kept f t = subst (KeptAt f) at (c .kept) in
+    ap (λ (l : List ℕ). shortMonthsOf f l i) (c .left ∙ ap (boardThere b) at)
+    ∙ k .short-months i h
+    ∙ ap (λ (m : ℕ). record { number = 0; place = 0; months = m }) (ap (λ (s : Start). shortNow s (t .months) i) from ∙ fresh b (accepted-facts f e) .none-short (t .months) i)
+
+pub untried : Untried
+untried f board store name lent w a n cs others es es′ same r r′ =
+    one-run-each f board es es′ same r (subst (λ (l : List ℕ). Run f l es′) (ap (λ (x : Recalled). x .board) (comeBack store name board lent w a n cs others)) r′)
 
 pub checkpoints : Checkpoints
 checkpoints f board runoff e n can = board-checkpoints f e (accepted-facts f e) board runoff n can

@@ -26,7 +26,9 @@ use Rattle.month.specs.Month.{monthRefusal, Outcome, monthOf}
 use Rattle.book.specs.Book.{lookupRefusal, yearPart}
 use Rattle.years.specs.Years.{yearSheets, sheetsLeft, Made, callsMade, runFits, runSettled, yearOf, YearMeets}
 use Rattle.years.proofs.Sheets.{sheets-length}
-use Rattle.ledger.specs.Account.{MonthCall, YearCall, yearEvent, callOf, runIn, Tells, MonthReport, TellsEach, RunReports, tallyBoard, Follows}
+use Rattle.ledger.specs.Runs.{MonthCall, YearCall, yearEvent}
+use Rattle.ledger.specs.Reports.{Tells, callOf, MonthReport, TellsEach, RunReports}
+use Rattle.ledger.specs.Account.{tallyBoard, tallied, runIn, Follows}
 use Rattle.ledger.proofs.Tally.{tally-month, tally-possible}
 use Rattle.ledger.proofs.Months.{lent-lists, tally-length, tally-refusal, Settled, month-settled}
 use Rattle.rules.specs.Years as tally
@@ -187,7 +189,7 @@ module _ (f : List ℕ) (ok : checkOf f ≡ AcceptedFile) (acc : Accepted (basin
         }
     settled (some a) w q = record { answer = ap (λ (o : Outcome). o .answer) q; report = ap (λ (o : Outcome). o .report) q; board-left = ap (λ (o : Outcome). o .board) q }
 
-    pub follow-year : YearMeets f (e .book) (e .year) board (e .reports) (e .outcome) → Follows f t (yearEvent e)
+    pub follow-year : YearMeets f (e .book) (e .year) board (e .reports) (e .outcome) → Follows f (tallied t) (yearEvent e)
     unfolding yearOf entryAnswer afterEntry countsAs
     follow-year m =
         let s : RunSettled (tally.runRefusal b t y) = settled (tally.runRefusal b t y) refl

@@ -9,6 +9,7 @@ ghost use Rattle.stock.specs.Stock.{stockOf, stockTold};
 ghost use Rattle.month.specs.Month.{MonthMeets, outcomeOf};
 ghost use Rattle.book.specs.Book.{lookupRefusal};
 ghost use Rattle.years.specs.Years.{YearMeets};
+ghost use Rattle.store.specs.Calls.{stored, recalled, saveOf, recallOf, dropOf};
 use answers::Answer;
 use answers::tell;
 use book::find::find_year;
@@ -19,6 +20,9 @@ use stock::Sums;
 use stock::months::Months;
 use stock::months::short_months;
 use stock::stock;
+use store::drop_name;
+use store::recall;
+use store::save;
 use years::run::run_year;
 
 // The refusal's number, or 0 where the file is accepted.
@@ -90,4 +94,26 @@ pub extern "C" fn river_run_year(
     ensures { λ r. ⌜ YearMeets (now (file .entry)) (now (book .entry)) year (now (board .entry)) (now (reports .entry)) (outcomeOf r (now (board .exit)) (now (reports .exit))) ⌝ }
 {
     run_year(file, book, year, board, reports)
+}
+
+// No basin is taken: a board of any numbers is kept under the name, in the bytes of the store.
+#[no_mangle]
+pub extern "C" fn river_save(store: &mut [u8], name: &[u8], board: &[u64]) -> Answer
+    ensures { λ r. ⌜ stored r (now (store .exit)) ≡ saveOf (now (store .entry)) (now (name .entry)) (now (board .entry)) ⌝ }
+{
+    save(store, name, board)
+}
+
+#[no_mangle]
+pub extern "C" fn river_recall(store: &[u8], name: &[u8], board: &mut [u64]) -> Answer
+    ensures { λ r. ⌜ recalled r (now (board .exit)) ≡ recallOf (now (store .entry)) (now (name .entry)) (now (board .entry)) ⌝ }
+{
+    recall(store, name, board)
+}
+
+#[no_mangle]
+pub extern "C" fn river_drop(store: &mut [u8], name: &[u8]) -> Answer
+    ensures { λ r. ⌜ stored r (now (store .exit)) ≡ dropOf (now (store .entry)) (now (name .entry)) ⌝ }
+{
+    drop_name(store, name)
 }

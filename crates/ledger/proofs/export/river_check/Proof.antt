@@ -4,12 +4,12 @@ use Prim.Native.Nat.{_≤_}
 use native.Mathlib.Omega.{arith}
 use borrow.Author.Needs.{needs}
 use Rattle.rules.specs.declared.Verdict.{Verdict}
-use Rattle.rules.specs.declared.Verdict.the-variants.{Accepted, Layout, Station, Reservoir, Pattern, Right, Lists, Board, Runoff, Book, Year}
+use Rattle.rules.specs.declared.Verdict.the-variants.{Accepted, Layout, Station, Reservoir, Pattern, Right, Lists, Board, Runoff, Book, Year, Name, Full}
 use Rattle.rules.specs.Answers.{Answer, numberOf}
 use Rattle.ledger.proofs.export.river_check.Statement.{statement}
 use Rattle.ledger.proofs.export.river_check.Tie as tie
 
-number-most : (v : Verdict) → numberOf v ≤ 10
+number-most : (v : Verdict) → numberOf v ≤ 12
 number-most Accepted = omega arith
 number-most Layout = omega arith
 number-most (Station i) = omega arith
@@ -21,6 +21,8 @@ number-most Board = omega arith
 number-most (Runoff i) = omega arith
 number-most Book = omega arith
 number-most Year = omega arith
+number-most Name = omega arith
+number-most Full = omega arith
 
 check-requires : tie.Need-check-requires
 check-requires c κs = search needs

@@ -1,0 +1,3 @@
+pub mod Store
+pub mod Calls
+pub mod Theorems
