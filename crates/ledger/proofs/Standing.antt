@@ -27,9 +27,9 @@ use Rattle.answers.proofs.Answers.{no-refusal}
 use Rattle.fresh.specs.Fresh.{Fresh, freshRefusal, freshBoard, freshSettled, freshOf}
 use Rattle.fresh.proofs.Start.{fresh-size, fresh-can}
 use Rattle.stock.specs.Months.{shortMonthsOf}
-use Rattle.store.specs.Store.{boardAt, firstNamed}
+use Rattle.entries.specs.Entries.{boardAt, firstNamed}
 use Rattle.store.specs.Calls.{storeFits, nameRefusal, Meant, refused, entry, meantBy, recallMeans, nameMeans, Recalled, recallBy, recallOf}
-use Rattle.store.proofs.Numbers.{board-length}
+use Rattle.entries.proofs.Numbers.{board-length}
 use Rattle.ledger.specs.Runs.{FreshCall, RecallCall, freshEvent, recallEvent}
 use Rattle.ledger.specs.Account.{startOf, tallyBoard, Standing, tallied, astray, standsOn, boardThere, startsAnew, meantAnswer, Follows, Kept, KeptAt, FreshBoard}
 use Rattle.ledger.proofs.Tally.{start-possible, tally-begins, fresh-starts}

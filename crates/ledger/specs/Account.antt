@@ -27,7 +27,7 @@ use Rattle.stock.specs.Months.{shortMonthsOf}
 use Rattle.month.specs.Month.{runOf}
 use Rattle.book.specs.Book.{lookupRefusal}
 use Rattle.years.specs.Years.{yearSheets}
-use Rattle.store.specs.Store.{boardAt}
+use Rattle.entries.specs.Entries.{boardAt}
 use Rattle.store.specs.Calls.{Meant, refused, entry, nameMeans, saveOf, recallOf}
 use Rattle.store.specs.Theorems.{Words, Change, changeName, afterChanges}
 use Rattle.ledger.specs.Runs.{MonthCall, YearCall, FreshCall, RecallCall, Event, monthEvent, yearEvent, freshEvent, recallEvent, answerBy, leftBy, Run, boardLeft, lentTo}

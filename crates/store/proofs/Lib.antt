@@ -1,4 +1,3 @@
-pub mod Numbers
 pub mod Answers
-pub mod Entries
+pub mod Changed
 pub mod Theorems

@@ -13,7 +13,7 @@ use Rattle.rules.specs.Answers.{Answer, told, orElse, unless}
 use Rattle.boards.specs.Board.{boardFits}
 use Rattle.answers.specs.declared.Answer.{Answer as Given}
 use Rattle.answers.specs.Answers.{accepted, answerOf}
-use Rattle.store.specs.Store.{nameLength, nameStart, boardStart, storeLength, boardAt, bytesOf, sameName, noName, firstNamed, placeFor}
+use Rattle.entries.specs.Entries.{nameLength, nameStart, boardStart, storeLength, boardAt, bytesOf, sameName, noName, firstNamed, placeFor}
 
 -- ---- what is turned down, in this order: 6, 11, 12
 

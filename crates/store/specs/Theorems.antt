@@ -10,7 +10,7 @@ use Rattle.rules.specs.declared.Verdict.the-variants.{Name, Full}
 use Rattle.rules.specs.Answers.{Answer, told}
 use Rattle.answers.specs.Answers.{accepted}
 use Rattle.places.specs.Board.{boardLength}
-use Rattle.store.specs.Store.{entryCount, nameLength, storeLength, nameAt, boardAt, noName}
+use Rattle.entries.specs.Entries.{entryCount, nameLength, storeLength, nameAt, boardAt, noName}
 use Rattle.store.specs.Calls.{Stored, Recalled, saved, dropped, saveOf, recallOf, dropOf}
 
 -- numbers of 64 bits, as a board has them

@@ -3,23 +3,20 @@ ghost use mathlib.Core.Path.{_≡_};
 ghost use Rattle.general.specs.Tests.{_and_};
 ghost use Rattle.answers.specs.Answers.{answerOf, settled};
 ghost use Rattle.store.specs.Calls.{storeFits, nameRefusal, stored, recalled, saveOf, recallOf, dropOf};
-use crate::copies::STORE_LENGTH;
-use crate::copies::read_board;
-use crate::copies::write_board;
-use crate::names::Found;
-use crate::names::NAME_LENGTH;
-use crate::names::find;
-use crate::names::fixed;
-use crate::names::place_for;
-use crate::names::same_name;
-use crate::names::write_name;
 use answers::Answer;
 use answers::tell;
+use entries::copies::STORE_LENGTH;
+use entries::copies::read_board;
+use entries::copies::write_board;
+use entries::names::Found;
+use entries::names::NAME_LENGTH;
+use entries::names::find;
+use entries::names::fixed;
+use entries::names::place_for;
+use entries::names::same_name;
+use entries::names::write_name;
 use places::board::BOARD_LENGTH;
 use rules::Verdict;
-
-pub mod copies;
-pub mod names;
 
 // The answer on a store and a name, before any look-up; `fits` tells whether the call's other list has its length.
 fn judge(store: &[u8], name: &[u8], fits: bool) -> Answer

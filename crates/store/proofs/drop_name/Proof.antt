@@ -2,8 +2,9 @@
 use mathlib.Core.Bool.{true}
 use native.Mathlib.Omega.{arith}
 use denote.Ref.{now}
-use Rattle.store.specs.Store.{firstNamed}
-use Rattle.store.proofs.Answers.{looked-none, looked-at, named-within, clear-of, drop-refused, drop-missing, drop-done}
+use Rattle.entries.specs.Entries.{firstNamed}
+use Rattle.entries.proofs.LookUp.{looked-none, looked-at, named-within}
+use Rattle.store.proofs.Answers.{clear-of, drop-refused, drop-missing, drop-done}
 use borrow.Author.Needs.{needs}
 use Rattle.store.proofs.drop_name.Statement.{statement}
 use Rattle.store.proofs.drop_name.Tie as tie

@@ -3,8 +3,9 @@ use native.Mathlib.Omega.{arith}
 use denote.Ref.{now}
 use Rattle.general.proofs.Tests.{eq-of}
 use Rattle.boards.specs.Board.{boardFits}
-use Rattle.store.specs.Store.{firstNamed}
-use Rattle.store.proofs.Answers.{looked-none, looked-at, named-within, clear-of, recall-refused, recall-missing, recall-done}
+use Rattle.entries.specs.Entries.{firstNamed}
+use Rattle.entries.proofs.LookUp.{looked-none, looked-at, named-within}
+use Rattle.store.proofs.Answers.{clear-of, recall-refused, recall-missing, recall-done}
 use borrow.Author.Needs.{needs}
 use Rattle.store.proofs.recall.Statement.{statement}
 use Rattle.store.proofs.recall.Tie as tie

@@ -4,8 +4,9 @@ use native.Mathlib.Omega.{arith}
 use denote.Ref.{now}
 use Rattle.general.proofs.Tests.{eq-of}
 use Rattle.boards.specs.Board.{boardFits}
-use Rattle.store.specs.Store.{placeFor}
-use Rattle.store.proofs.Answers.{looked-none, looked-at, place-within, clear-of, save-refused, save-wanting, save-done}
+use Rattle.entries.specs.Entries.{placeFor}
+use Rattle.entries.proofs.LookUp.{looked-none, looked-at, place-within}
+use Rattle.store.proofs.Answers.{clear-of, save-refused, save-wanting, save-done}
 use borrow.Author.Needs.{needs}
 use Rattle.store.proofs.save.Statement.{statement}
 use Rattle.store.proofs.save.Tie as tie
