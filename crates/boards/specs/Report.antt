@@ -18,7 +18,7 @@ unfoldable pub grantNumber : Grant → ℕ → ℕ
 grantNumber g q = cond (eqb q 0) (g .fromRiver) (cond (eqb q 1) (g .fromStorage) (cond (eqb q 2) (reasonNumber (g .reason)) (g .station)))
 
 -- per row: flow, available flow. The rules reckon them with a sign. In a month from a possible board neither is negative (theorem `Checkpoints` of
--- `ledger/specs/Account`), so that the number told is the flow itself, as the claim says there (`Tells`).
+-- `account/specs/Claim`), so that the number told is the flow itself, as the claim says there (`Tells`).
 unfoldable pub levelNumber : Level → ℕ → ℕ
 levelNumber x q = cond (eqb q 0) (natAbs (x .flow)) (natAbs (x .available))
 

@@ -26,11 +26,11 @@ use Rattle.month.specs.Month.{monthRefusal, Outcome, monthOf}
 use Rattle.book.specs.Book.{lookupRefusal, yearPart}
 use Rattle.years.specs.Years.{yearSheets, sheetsLeft, Made, callsMade, runFits, runSettled, yearOf, YearMeets}
 use Rattle.years.proofs.Sheets.{sheets-length}
-use Rattle.ledger.specs.Runs.{MonthCall, YearCall, yearEvent}
-use Rattle.ledger.specs.Reports.{Tells, callOf, MonthReport, TellsEach, RunReports}
-use Rattle.ledger.specs.Account.{tallyBoard, tallied, runIn, Follows}
-use Rattle.ledger.proofs.Tally.{tally-month, tally-possible}
-use Rattle.ledger.proofs.Months.{lent-lists, tally-length, tally-refusal, Settled, month-settled}
+use Rattle.account.specs.Runs.{MonthCall, YearCall, yearEvent}
+use Rattle.account.specs.Reports.{Tells, callOf, MonthReport, TellsEach, RunReports}
+use Rattle.account.specs.Claim.{tallyBoard, tallied, runIn, Follows}
+use Rattle.account.proofs.Tally.{tally-month, tally-possible}
+use Rattle.account.proofs.Months.{lent-lists, tally-length, tally-refusal, Settled, month-settled}
 use Rattle.rules.specs.Years as tally
 use Rattle.years.specs.Years as year
 

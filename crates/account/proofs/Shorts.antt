@@ -28,8 +28,8 @@ use Rattle.boards.proofs.Board.{bit-word, board-length, word-place}
 use Rattle.stock.specs.Stock.{stockRefusal}
 use Rattle.stock.specs.Months as call
 use Rattle.stock.proofs.Answers.{clear-none}
-use Rattle.ledger.specs.Account.{tallyBoard}
-use Rattle.ledger.proofs.Tally.{tally-possible}
+use Rattle.account.specs.Claim.{tallyBoard}
+use Rattle.account.proofs.Tally.{tally-possible}
 
 -- the bits of a word of marks are as many as the marks
 bits-many : (ms : List Bool) → length ms ≡ 12 → bitsSet 12 (wordOf ms) ≡ howMany ms

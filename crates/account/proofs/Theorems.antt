@@ -1,4 +1,4 @@
--- The theorems of specs/Runs.antt, Reports.antt and Account.antt. Assumes nothing.
+-- The theorems of specs/Runs.antt, Reports.antt and Claim.antt. Assumes nothing.
 use mathlib.Core.Path.{_≡_, sym, ap, _∙_, subst}
 use mathlib.Core.List.{List}
 use Prim.Native.Nat.{ℕ}
@@ -11,13 +11,13 @@ use Rattle.filecheck.proofs.Accepted.{accepted-facts}
 use Rattle.stock.specs.Months.{shortMonthsOf}
 use Rattle.store.specs.Calls.{Recalled}
 use Rattle.store.proofs.Theorems.{comeBack}
-use Rattle.ledger.specs.Runs.{Run, boardLeft, OneReport, OneYear, OneRun}
-use Rattle.ledger.specs.Reports.{TellsAll}
-use Rattle.ledger.specs.Account.{Standing, tallied, boardThere, Kept, KeptAt, Accounted, Claim, FreshStarts, ShortFromFresh, Untried, Checkpoints}
-use Rattle.ledger.proofs.Telling.{all-told}
-use Rattle.ledger.proofs.Standing.{fresh-facts}
-use Rattle.ledger.proofs.Account.{accounted, board-checkpoints}
-use Rattle.ledger.proofs.Runs.{only-run, one-run-each}
+use Rattle.account.specs.Runs.{Run, boardLeft, OneReport, OneYear, OneRun}
+use Rattle.account.specs.Reports.{TellsAll}
+use Rattle.account.specs.Claim.{Standing, tallied, boardThere, Kept, KeptAt, Accounted, Claim, FreshStarts, ShortFromFresh, Untried, Checkpoints}
+use Rattle.account.proofs.Telling.{all-told}
+use Rattle.account.proofs.Standing.{fresh-facts}
+use Rattle.account.proofs.Account.{accounted, board-checkpoints}
+use Rattle.account.proofs.Runs.{only-run, one-run-each}
 
 pub claim : Claim
 claim f board e n es r = accounted f e (accepted-facts f e) board n es r

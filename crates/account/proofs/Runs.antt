@@ -6,7 +6,7 @@ use Rattle.month.specs.Month.{Outcome, monthOf}
 use Rattle.years.specs.Years.{yearOf}
 use Rattle.fresh.specs.Fresh.{Fresh, freshOf}
 use Rattle.store.specs.Calls.{Recalled, recallOf}
-use Rattle.ledger.specs.Runs.{Event, monthEvent, yearEvent, freshEvent, recallEvent, leftBy, Meets, Run, Lends, sheet, bookYear, nothing, storeName, lentTo, OnlyRun}
+use Rattle.account.specs.Runs.{Event, monthEvent, yearEvent, freshEvent, recallEvent, leftBy, Meets, Run, Lends, sheet, bookYear, nothing, storeName, lentTo, OnlyRun}
 
 module _ (f : List ℕ) where
   -- a call leaves what its definition says

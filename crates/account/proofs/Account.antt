@@ -21,14 +21,14 @@ use Rattle.filecheck.specs.Check.{checkOf}
 use Rattle.boards.specs.Board.{carriedOf, possible}
 use Rattle.places.specs.Board.{boardLength, dueAt}
 use Rattle.month.specs.Month.{runOf}
-use Rattle.ledger.specs.Runs.{Event, monthEvent, yearEvent, freshEvent, recallEvent, leftBy, Meets, Run, boardLeft}
-use Rattle.ledger.specs.Reports.{callOf}
-use Rattle.ledger.specs.Account.{startOf, Standing, tallied, astray, standsOn, boardThere, runIn, afterEvent, afterEvents, Follows, AllFollow, Accounted}
-use Rattle.ledger.proofs.Tally.{start-possible}
-use Rattle.ledger.proofs.Months.{tally-length, follow-month}
-use Rattle.ledger.proofs.Years.{follow-year}
-use Rattle.ledger.proofs.Astray.{astray-month, astray-year}
-use Rattle.ledger.proofs.Standing.{reached-more, reached-possible, Stands, stands-kept, starts-well, starts-there, fresh-stands, follow-fresh, anew-stands, follow-recall}
+use Rattle.account.specs.Runs.{Event, monthEvent, yearEvent, freshEvent, recallEvent, leftBy, Meets, Run, boardLeft}
+use Rattle.account.specs.Reports.{callOf}
+use Rattle.account.specs.Claim.{startOf, Standing, tallied, astray, standsOn, boardThere, runIn, afterEvent, afterEvents, Follows, AllFollow, Accounted}
+use Rattle.account.proofs.Tally.{start-possible}
+use Rattle.account.proofs.Months.{tally-length, follow-month}
+use Rattle.account.proofs.Years.{follow-year}
+use Rattle.account.proofs.Astray.{astray-month, astray-year}
+use Rattle.account.proofs.Standing.{reached-more, reached-possible, Stands, stands-kept, starts-well, starts-there, fresh-stands, follow-fresh, anew-stands, follow-recall}
 
 -- where every call follows, the board after the run is that of where it stands
 left-by : (f : List ℕ) (st : Standing) (board : List ℕ) (es : List Event) → board ≡ boardThere (basinOf f) st → AllFollow f st es → boardLeft board es ≡ boardThere (basinOf f) (afterEvents f st es)

@@ -18,7 +18,7 @@ use Rattle.rules.specs.Theorems.{Possible}
 use Rattle.rules.proofs.Months.{month-ok}
 use Rattle.boards.specs.Report.{reportOf}
 use Rattle.places.specs.Report.{fromRiverPlace, fromStoragePlace, reasonPlace, stationPlace, flowPlace, availablePlace, evaporationPlace, deepPlace}
-use Rattle.ledger.specs.Reports.{Tells}
+use Rattle.account.specs.Reports.{Tells}
 use Rattle.boards.proofs.Report.{report-by-parts, made-size, own-number, river-place, storage-place, reason-place, station-place, flow-place, available-place, evaporation-place, deep-place, places-beyond}
 use Rattle.rules.proofs.Sums.{accepted-fits}
 

@@ -1,3 +1,3 @@
 pub mod Runs
 pub mod Reports
-pub mod Account
+pub mod Claim

@@ -25,7 +25,7 @@ use Rattle.places.proofs.BoardPlaces.{by-places}
 use Rattle.boards.specs.Board.{carriedOf, wordOf, boardOf, possible}
 use Rattle.fresh.specs.Fresh.{freshBoard}
 use Rattle.month.specs.Month.{runOf, dueAfter, boardAfter}
-use Rattle.ledger.specs.Account.{startOf, tallyBoard}
+use Rattle.account.specs.Claim.{startOf, tallyBoard}
 use Rattle.boards.proofs.Bounds as held
 use Rattle.boards.proofs.Board.{word-bits, word-none, Counted, board-length, due-place, due-of-row, word-place, read-back, board-same, board-told}
 use Rattle.fresh.proofs.Start.{no-word}

@@ -21,10 +21,10 @@ use Rattle.answers.proofs.Answers.{no-refusal}
 use Rattle.month.specs.Month.{callWith, allFit, monthRefusal, Outcome, monthSettled, monthOf, MonthMeets}
 use Rattle.book.specs.Book.{lookupRefusal}
 use Rattle.years.specs.Years.{Made, yearMade, sheetsLeft, runFits, runRefusal, runSettled, yearOf, YearMeets}
-use Rattle.ledger.specs.Runs.{MonthCall, YearCall, monthEvent, yearEvent}
-use Rattle.ledger.specs.Reports.{callOf}
-use Rattle.ledger.specs.Account.{astray, runIn, strayAnswer, Follows}
-use Rattle.ledger.proofs.Months.{lists-same}
+use Rattle.account.specs.Runs.{MonthCall, YearCall, monthEvent, yearEvent}
+use Rattle.account.specs.Reports.{callOf}
+use Rattle.account.specs.Claim.{astray, runIn, strayAnswer, Follows}
+use Rattle.account.proofs.Months.{lists-same}
 
 -- ---- a refusal that there is
 

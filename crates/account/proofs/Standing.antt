@@ -30,10 +30,10 @@ use Rattle.stock.specs.Months.{shortMonthsOf}
 use Rattle.entries.specs.Entries.{boardAt, firstNamed}
 use Rattle.store.specs.Calls.{storeFits, nameRefusal, Meant, refused, entry, meantBy, recallMeans, nameMeans, Recalled, recallBy, recallOf}
 use Rattle.entries.proofs.Numbers.{board-length}
-use Rattle.ledger.specs.Runs.{FreshCall, RecallCall, freshEvent, recallEvent}
-use Rattle.ledger.specs.Account.{startOf, tallyBoard, Standing, tallied, astray, standsOn, boardThere, startsAnew, meantAnswer, Follows, Kept, KeptAt, FreshBoard}
-use Rattle.ledger.proofs.Tally.{start-possible, tally-begins, fresh-starts}
-use Rattle.ledger.proofs.Shorts.{told-short}
+use Rattle.account.specs.Runs.{FreshCall, RecallCall, freshEvent, recallEvent}
+use Rattle.account.specs.Claim.{startOf, tallyBoard, Standing, tallied, astray, standsOn, boardThere, startsAnew, meantAnswer, Follows, Kept, KeptAt, FreshBoard}
+use Rattle.account.proofs.Tally.{start-possible, tally-begins, fresh-starts}
+use Rattle.account.proofs.Shorts.{told-short}
 
 -- ---- a tally that a list of entries has led to from a possible start
 

@@ -23,11 +23,11 @@ use Rattle.places.specs.Board.{boardLength}
 use Rattle.answers.specs.Answers.{lentRefusal}
 use Rattle.answers.proofs.Answers.{no-refusal}
 use Rattle.month.specs.Month.{callWith, allFit, monthRefusal, runOf, Outcome, monthSettled, monthOf, MonthMeets}
-use Rattle.ledger.specs.Runs.{MonthCall, monthEvent}
-use Rattle.ledger.specs.Reports.{callOf, MonthReport}
-use Rattle.ledger.specs.Account.{tallyBoard, tallied, Follows}
-use Rattle.ledger.proofs.Tally.{tally-possible, tally-run, tally-next}
-use Rattle.ledger.proofs.Telling.{tells}
+use Rattle.account.specs.Runs.{MonthCall, monthEvent}
+use Rattle.account.specs.Reports.{callOf, MonthReport}
+use Rattle.account.specs.Claim.{tallyBoard, tallied, Follows}
+use Rattle.account.proofs.Tally.{tally-possible, tally-run, tally-next}
+use Rattle.account.proofs.Telling.{tells}
 
 -- ---- refusals
 

@@ -13,7 +13,7 @@ use Rattle.rules.specs.Answers.{Answer}
 use Rattle.boards.specs.Report.{reportOf}
 use Rattle.places.specs.Report.{fromRiverPlace, fromStoragePlace, reasonPlace, stationPlace, flowPlace, availablePlace, evaporationPlace, deepPlace}
 use Rattle.month.specs.Month.{callWith}
-use Rattle.ledger.specs.Runs.{MonthCall, YearCall}
+use Rattle.account.specs.Runs.{MonthCall, YearCall}
 
 -- the report after a month run, told number by number; before is the report that was lent
 pub record Tells (b : Basin) (h : MonthRun) (before after : List ℕ) : Type 0 where
