@@ -11,7 +11,7 @@ mod compare;
 
 use compare::{Ask, Compared, Kind, KINDS};
 use river_tests::engine::board::{BOARD, SHORT};
-use river_tests::engine::store::{board_at, name_at, NAME_BYTES, NO_NAME, STORE_BYTES};
+use river_tests::engine::store::{board_at, name_at, Name, NAME_BYTES, NO_NAME, STORE_BYTES};
 use river_tests::generate::{any_name, any_numbers, any_store, Rng, NAMES};
 use river_tests::seeds::{first_seed, from_environment};
 
@@ -36,6 +36,16 @@ const SPOILS: &[(&str, Spoil)] = &[
     ("board too long", |ask, rng| ask.board.resize(*rng.pick(&[BOARD + 1, 2 * BOARD]), 1)),
 ];
 
+/// A name that stands in the store, zeros where the entry is empty, or any of all.
+fn asked_name(store: &[u8], rng: &mut Rng) -> Vec<u8> {
+    let there = store[name_at(rng.below(4))].to_vec();
+    if rng.chance(40) {
+        there
+    } else {
+        any_name(rng).to_vec()
+    }
+}
+
 /// A list on one store, each call on what the one before left of store and board.
 fn compare_list(seed: u64, compared: &mut Compared, spoilt: &mut [usize]) {
     let rng = &mut Rng::new(seed);
@@ -45,7 +55,7 @@ fn compare_list(seed: u64, compared: &mut Compared, spoilt: &mut [usize]) {
         if rng.chance(30) {
             board = any_numbers(rng);
         }
-        let mut ask = Ask { kind, store, name: any_name(rng).to_vec(), board };
+        let mut ask = Ask { kind, name: asked_name(&store, rng), store, board };
         let mut at = format!("RIVER_SEED={seed}, call {number}");
         let whole = (ask.store.clone(), ask.board.clone());
         let spoils = if rng.chance(15) { *rng.pick(&[1, 1, 2]) } else { 0 };
@@ -87,39 +97,43 @@ fn lists_of_store_calls() {
     }
 }
 
-/// Lengths around the right ones, with every other list right or wrong, on full and on empty
-/// stores: 6 comes before 11 and 12, and a drop looks at no board.
+const ASKED: [Name; 3] = [NAMES[0], NAMES[5], NO_NAME];
+
+/// Lengths of store, name and board around the right ones, each with each.
+fn lengths() -> Vec<[usize; 3]> {
+    let mut all = Vec::new();
+    for store in [0, 1, 7, 8, 31, 32, STORE_BYTES - 1, STORE_BYTES, STORE_BYTES + 1] {
+        for name in 0..10 {
+            for board in [0, 1, BOARD - 1, BOARD, BOARD + 1] {
+                all.push([store, name, board]);
+            }
+        }
+    }
+    all
+}
+
+/// On a full and on an empty store, by a name that is there, one that is not, and zeros: 6 comes
+/// before 11 and 12, and a drop looks at no board.
 #[test]
 fn every_length_that_matters() {
     let mut compared = Compared::default();
-    let rng = &mut Rng::new(7);
-    let stores = [0, 1, 7, 8, 31, 32, STORE_BYTES - 1, STORE_BYTES, STORE_BYTES + 1];
-    let boards = [0, 1, BOARD - 1, BOARD, BOARD + 1];
+    let mut compare = |whole: &[u8], kind: Kind, name: &[u8], lengths: [usize; 3]| {
+        let board = vec![5; lengths[2]];
+        let mut ask = Ask { kind, store: whole.to_vec(), name: name.to_vec(), board };
+        ask.store.resize(lengths[0], 0);
+        ask.name.resize(lengths[1], 0);
+        let fits = lengths[..2] == [STORE_BYTES, NAME_BYTES]
+            && (lengths[2] == BOARD || matches!(kind, Kind::Drop));
+        let at = format!("{kind:?}, lengths {lengths:?}");
+        let answer = compared.compare(&mut ask, &at);
+        assert_eq!(answer.0 != 6, fits, "{at}: {answer:?}");
+    };
     for names in [[NAMES[0]; 4], [NO_NAME; 4]] {
-        let mut whole = any_store(rng);
+        let mut whole = any_store(&mut Rng::new(7));
         whole[..name_at(3).end].copy_from_slice(&names.concat());
-        for kind in KINDS {
-            for (bytes, length) in stores.iter().flat_map(|&bytes| (0..10).map(move |n| (bytes, n)))
-            {
-                for (numbers, name) in boards
-                    .iter()
-                    .flat_map(|&numbers| [NAMES[0], NAMES[5], NO_NAME].map(|name| (numbers, name)))
-                {
-                    let mut ask = Ask {
-                        kind,
-                        store: whole.clone(),
-                        name: name.to_vec(),
-                        board: vec![5; numbers],
-                    };
-                    ask.store.resize(bytes, 0);
-                    ask.name.resize(length, 0);
-                    let fits = bytes == STORE_BYTES
-                        && length == NAME_BYTES
-                        && (numbers == BOARD || matches!(kind, Kind::Drop));
-                    let at = format!("{kind:?}, lengths {bytes}, {length}, {numbers}");
-                    let answer = compared.compare(&mut ask, &at);
-                    assert_eq!(answer.0 != 6, fits, "{at}: {answer:?}");
-                }
+        for lengths in lengths() {
+            for (kind, name) in KINDS.iter().flat_map(|&kind| ASKED.map(|name| (kind, name))) {
+                compare(&whole, kind, &name, lengths);
             }
         }
     }
