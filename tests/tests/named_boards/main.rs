@@ -176,6 +176,26 @@ fn a_name_that_stands_four_times() {
     });
 }
 
+/// A store has four names: what stands behind the last is a number, whatever it looks like.
+#[test]
+fn numbers_are_no_names() {
+    by_each(|calls| {
+        let looks_like_a_name = [u64::from_le_bytes(MARCH); 1226];
+        let mut desk = Desk::of(calls, [NONE; 4]);
+        for (entry, name) in [A, B, C, D].iter().enumerate() {
+            desk.saves(name, &looks_like_a_name, entry);
+            desk.refuses_to_find(&MARCH);
+        }
+        desk.refuses_all(&MARCH, 12, 11);
+        // Nor does a board of zeros make an entry empty.
+        [A, B, C, D]
+            .iter()
+            .enumerate()
+            .for_each(|(entry, name)| desk.saves(name, &[0; 1226], entry));
+        desk.refuses_all(&MARCH, 12, 11);
+    });
+}
+
 /// Names are compared to the last bit, zero bytes among them.
 #[test]
 fn names_that_differ_in_one_bit() {
