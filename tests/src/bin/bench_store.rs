@@ -13,13 +13,17 @@ const ROUNDS: usize = 401;
 /// A round repeats the call until it is long against the clock's step.
 const SHORTEST_ROUND_NS: f64 = 50_000.0;
 
+/// The place of a name that no entry has.
+const NOT_THERE: usize = 4;
+
 fn main() {
     println!("call entry native_ns plain_ns copy_ns ratio_to_plain plain_to_copy");
     for entry in [0, 3] {
         bench("save", entry, [native_save, plain_save, copy_to_store]);
         bench("recall", entry, [native_recall, plain_recall, copy_from_store]);
     }
-    bench("recall, not there", 4, [native_not_there, plain_not_there, copy_nothing]);
+    // Nothing is copied, so that the third way is the round's own time.
+    bench("recall_not_there", NOT_THERE, [native_not_there, plain_not_there, |_| ()]);
 }
 
 /// A full store, and a board for one of its entries.
@@ -72,8 +76,6 @@ fn plain_not_there(job: &mut Job) {
     let Job { store, entry, board, .. } = job;
     assert_eq!(engine::recall(black_box(&*store), black_box(&NAMES[*entry]), board), (11, 0));
 }
-
-fn copy_nothing(_: &mut Job) {}
 
 fn bench(name: &str, entry: usize, ways: [Call; 3]) {
     let mut job = Job::new(entry);
