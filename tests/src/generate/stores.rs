@@ -35,7 +35,7 @@ pub fn any_numbers(rng: &mut Rng) -> Vec<u64> {
 /// Any bytes, under names that are often there twice; some entries are empty.
 pub fn any_store(rng: &mut Rng) -> Vec<u8> {
     let mut store: Vec<u8> = (0..STORE_BYTES / 8).flat_map(|_| rng.word().to_le_bytes()).collect();
-    let (few, empty) = (rng.below(NAMES.len()) + 1, *rng.pick(&[0, 25, 60]));
+    let (few, empty) = (rng.below(NAMES.len()) + 1, *rng.pick(&[0, 25, 60, 100]));
     for entry in 0..ENTRIES {
         let name = if rng.chance(empty) { NO_NAME } else { NAMES[rng.below(few)] };
         store[name_at(entry)].copy_from_slice(&name);
