@@ -38,7 +38,9 @@ pub fn list_months(
         return refuse(text, from, answer).at;
     }
     let mut report = [0u64; MOST_REPORT];
-    list_block(file, sheets, false, from, board, &mut report, text).progress.at
+    list_block(file, sheets, false, from, board, &mut report, text)
+        .progress
+        .at
 }
 
 // The same, printed.

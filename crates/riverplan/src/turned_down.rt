@@ -1,5 +1,6 @@
 // What a store turns down, and what it takes, from the store that the trial left: MARCH first, DRY second.
 ghost use mathlib.Core.Path.{_≡_};
+ghost use Prim.Native.Nat.{_≤_};
 ghost use lib.ListN.{length};
 ghost use Rattle.store.specs.Store.{storeLength};
 use crate::saying::say;
@@ -36,14 +37,26 @@ fn wrong_lengths(store: &mut [u8], board: &[u64]) {
     say(b"drop, name of nine bytes:", drop_name(store, b"MARCH    "));
 }
 
-// Refusal 11: eight zero bytes are no name, and a name that was never saved is not there.
-fn wrong_names(store: &mut [u8], board: &mut [u64]) {
+// Refusal 11: eight zero bytes are no name.
+fn no_name(store: &mut [u8], board: &mut [u64]) {
     let zeros = [0u8; 8];
     say(b"save, eight zero bytes:", save(store, &zeros, board));
     say(b"recall, eight zero bytes:", recall(store, &zeros, board));
     say(b"drop, eight zero bytes:", drop_name(store, &zeros));
+}
+
+// Refusal 11 again: a name that was never saved.
+fn not_there(store: &mut [u8], board: &mut [u64]) {
     say(b"recall APRIL:", recall(store, b"APRIL   ", board));
     say(b"drop APRIL:", drop_name(store, b"APRIL   "));
+}
+
+// The stock is still that of September.
+fn refused(file: &[u8], store: &mut [u8], board: &mut [u64]) {
+    wrong_lengths(store, board);
+    no_name(store, board);
+    not_there(store, board);
+    say_stock(file, board);
 }
 
 // Refusal 12: a store has four names.
@@ -73,35 +86,51 @@ fn two_alike(file: &[u8], store: &mut [u8], board: &mut [u64])
     say_stock(file, board);
 }
 
-// A board of a thirteenth month is kept like any other: only the month turns it down. Then a month from March.
-fn thirteenth_month(file: &[u8], runoff: &[u32], store: &mut [u8], board: &mut [u64]) {
-    let mut report = [0u64; MOST_REPORT];
+// A board of a thirteenth month is kept like any other: only the month turns it down.
+fn save_thirteenth(store: &mut [u8]) {
     let mut thirteenth = [0u64; BOARD_LENGTH];
     thirteenth[MONTH] = 12;
     say(
         b"save MAY, a board of a thirteenth month:",
         save(store, b"MAY     ", &thirteenth),
     );
-    say(b"recall MAY:", recall(store, b"MAY     ", board));
+}
+
+// A recall, and the month from the board that it gives.
+fn month_from(
+    file: &[u8],
+    runoff: &[u32],
+    store: &[u8],
+    what: &[u8],
+    name: &[u8],
+    board: &mut [u64],
+) {
+    let mut report = [0u64; MOST_REPORT];
+    say(what, recall(store, name, board));
     say(b"month:", month(file, runoff, board, &mut report));
-    say(b"recall MARCH:", recall(store, b"MARCH   ", board));
-    say(b"month:", month(file, runoff, board, &mut report));
+}
+
+// March's runoff on the board of a thirteenth month, and then on March's own.
+fn months(file: &[u8], march: &[u8], store: &[u8], board: &mut [u64])
+    requires { ⌜ 72 ≤ length (now march) ⌝ }
+{
+    let mut runoff = [0u32; 18];
+    decode(march, &mut runoff);
+    month_from(file, &runoff, store, b"recall MAY:", b"MAY     ", board);
+    month_from(file, &runoff, store, b"recall MARCH:", b"MARCH   ", board);
     say_stock(file, board);
 }
 
 pub fn call(file: &[u8], spring: &[u8], store: &mut [u8], board: &mut [u64])
     requires { ⌜ length (now store) ≡ storeLength ⌝ }
 {
-    wrong_lengths(store, board);
-    wrong_names(store, board);
-    say_stock(file, board);
+    refused(file, store, board);
     fifth_name(store, board);
     one_dropped(store, board);
     two_alike(file, store, board);
-    let mut march = [0u32; 18];
+    save_thirteenth(store);
     if spring.len() < 72 {
         return;
     }
-    decode(spring, &mut march);
-    thirteenth_month(file, &march, store, board);
+    months(file, spring, store, board);
 }
