@@ -7,8 +7,8 @@
 //!   against the tally.
 //! * [`generate`], [`damage`]: valid basins and books, and those that break one rule.
 //! * [`calls`], [`run`]: the calls by each engine, for tests worked out by hand.
-//! * [`cases`], [`runs`], [`years`]: what programs `rivercheck`, `riverrun` and `riveryear`
-//!   are run on, with what they print.
+//! * [`cases`], [`runs`], [`years`], [`plan`]: what programs `rivercheck`, `riverrun`,
+//!   `riveryear` and `riverplan` are run on, with what they print.
 //! * [`seeds`]: where the long comparisons begin.
 //! * `ffi` (feature `native`): the static library's C functions; [`lent`]: lists for them;
 //!   `asked` (likewise): short months by both engines.
@@ -25,6 +25,7 @@ pub mod ffi;
 pub mod generate;
 pub mod lent;
 pub mod listing;
+pub mod plan;
 pub mod retold;
 pub mod run;
 pub mod runs;
