@@ -16,7 +16,7 @@ pub const YEAR: &str = "provo.months.bin";
 pub const DRY: &str = "dry.months.bin";
 
 /// The months before March.
-const AUTUMN: usize = 5;
+const WINTER: usize = 5;
 
 /// A basin with the sheets of a year and those of a dry spring, each as bytes.
 pub struct Plan {
@@ -29,7 +29,7 @@ impl Plan {
     /// The second year of a sample of two. Its spring is dry with a tenth of each number.
     pub fn of_sample(basin: &[u8], months: &[u8]) -> Plan {
         let year = months[months.len() / 2..].to_vec();
-        let spring = &year[AUTUMN * sheet_bytes(&year)..];
+        let spring = &year[WINTER * sheet_bytes(&year)..];
         let dry = numbers(spring).iter().flat_map(|number| (number / 10).to_le_bytes()).collect();
         Plan { basin: basin.to_vec(), dry, year }
     }
@@ -38,13 +38,13 @@ impl Plan {
         [(BASIN, &self.basin), (YEAR, &self.year), (DRY, &self.dry)]
     }
 
-    pub fn autumn(&self) -> &[u8] {
-        &self.year[..AUTUMN * sheet_bytes(&self.year)]
+    pub fn winter(&self) -> &[u8] {
+        &self.year[..WINTER * sheet_bytes(&self.year)]
     }
 
     /// The year as it is run at first: after February the dry spring.
     pub fn dry_year(&self) -> Vec<u8> {
-        [self.autumn(), &self.dry].concat()
+        [self.winter(), &self.dry].concat()
     }
 
     /// What the program is to print.
@@ -125,11 +125,11 @@ impl Desk<'_> {
 
     fn try_a_dry_spring(&mut self) {
         let plan = self.plan;
-        let spring = &plan.year[plan.autumn().len()..];
+        let spring = &plan.year[plan.winter().len()..];
         let as_it_was = listing(&plan.basin, &plan.year);
-        let (autumn_lines, spring_lines) = at_march(&as_it_was);
-        self.text += autumn_lines;
-        self.run(plan.autumn());
+        let (winter_lines, spring_lines) = at_march(&as_it_was);
+        self.text += winter_lines;
+        self.run(plan.winter());
         self.save("save MARCH", b"MARCH   ");
         self.text += at_march(&listing(&plan.basin, &plan.dry_year())).1;
         self.run(&plan.dry);
@@ -177,7 +177,7 @@ impl Desk<'_> {
 
     fn run_from_a_thirteenth_month(&mut self) {
         let plan = self.plan;
-        let march = &plan.year[plan.autumn().len()..][..sheet_bytes(&plan.year)];
+        let march = &plan.year[plan.winter().len()..][..sheet_bytes(&plan.year)];
         let mut thirteenth = vec![0; BOARD];
         thirteenth[NEXT_MONTH] = 12;
         let answer = save(&mut self.store, b"MAY     ", &thirteenth);

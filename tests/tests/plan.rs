@@ -14,7 +14,7 @@ const PROVO_MONTHS: &[u8] = include_bytes!("../../samples/provo.months.bin");
 
 /// The bytes of a sheet of 18 stations, and of the five before March.
 const SHEET: usize = 4 * 18;
-const AUTUMN: usize = 5 * SHEET;
+const WINTER: usize = 5 * SHEET;
 
 const TRIED: &str = "as if nothing had been tried: ";
 
@@ -76,7 +76,7 @@ fn a_dry_spring_is_a_tenth() {
     assert_eq!((year.len(), dry.len()), (12 * SHEET, 7 * SHEET));
     let number = |bytes: &[u8], at: usize| u32::from_le_bytes(*bytes[at..].first_chunk().unwrap());
     let tenths: Vec<u32> =
-        (AUTUMN..year.len()).step_by(4).map(|at| number(&year, at) / 10).collect();
+        (WINTER..year.len()).step_by(4).map(|at| number(&year, at) / 10).collect();
     assert_eq!(dry, months_bytes(&tenths));
 }
 
@@ -86,12 +86,12 @@ fn a_dry_spring_is_a_tenth() {
 fn the_months_are_the_tallys() {
     let Plan { year, dry, .. } = plan();
     let text = printed();
-    let (autumn, rest) = text.split_once("save MARCH: 0 0\n").unwrap();
+    let (winter, rest) = text.split_once("save MARCH: 0 0\n").unwrap();
     let (dry_spring, rest) = rest.split_once("save DRY: 0 0\nrecall MARCH: 0 0\n").unwrap();
     let (spring, rest) = rest.split_once(TRIED).unwrap();
-    let dry_year = [&year[..AUTUMN], &dry].concat();
-    assert_eq!(assert_listing(&format!("{autumn}{dry_spring}"), PROVO, &dry_year, &[]), 12);
-    assert_eq!(assert_listing(&format!("{autumn}{spring}"), PROVO, &year, &[]), 12);
+    let dry_year = [&year[..WINTER], &dry].concat();
+    assert_eq!(assert_listing(&format!("{winter}{dry_spring}"), PROVO, &dry_year, &[]), 12);
+    assert_eq!(assert_listing(&format!("{winter}{spring}"), PROVO, &year, &[]), 12);
     assert_ne!(dry_spring, spring);
     assert!(rest.starts_with(&format!("{} bytes, the same\n", spring.len())));
 }

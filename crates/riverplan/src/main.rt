@@ -9,18 +9,24 @@ mod saying;
 mod trial;
 mod turned_down;
 
-// The bytes of the sheets from October to February: five of 18 stations.
-const AUTUMN: usize = 5 * 18 * 4;
+// The Provo's stations, and the bytes of a sheet, of the sheets from October to February, and of a year's.
+const STATIONS: usize = 18;
+
+const SHEET: usize = 4 * STATIONS;
+
+const WINTER: usize = 5 * SHEET;
+
+const YEAR: usize = 12 * SHEET;
 
 fn plan(file: &[u8], year: &[u8], dry: &[u8]) {
-    if year.len() < AUTUMN {
+    if year.len() < YEAR {
         return;
     }
     let mut board = [0u64; BOARD_LENGTH];
     let mut store = [0u8; STORE_LENGTH];
-    let autumn = &year[..AUTUMN];
-    let spring = &year[AUTUMN..];
-    trial::try_dry(file, autumn, spring, dry, &mut store, &mut board);
+    let winter = &year[..WINTER];
+    let spring = &year[WINTER..];
+    trial::try_dry(file, winter, spring, dry, &mut store, &mut board);
     turned_down::call(file, spring, &mut store, &mut board);
 }
 

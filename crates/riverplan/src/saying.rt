@@ -1,7 +1,10 @@
-// The lines that are printed, but for those of the listing.
+// The lines that are printed, but for those of the listing; and the calls of a store, each with its line.
 use answers::Answer;
 use libc::STDOUT_FILENO;
 use stock::stock;
+use store::drop_name;
+use store::recall;
+use store::save;
 
 fn say_number(n: u64) {
     io::write_all(STDOUT_FILENO, b" ");
@@ -14,6 +17,18 @@ pub fn say(what: &[u8], answer: Answer) {
     say_number(answer.number);
     say_number(answer.place);
     io::write_all(STDOUT_FILENO, b"\n");
+}
+
+pub fn say_save(what: &[u8], store: &mut [u8], name: &[u8], board: &[u64]) {
+    say(what, save(store, name, board));
+}
+
+pub fn say_recall(what: &[u8], store: &[u8], name: &[u8], board: &mut [u64]) {
+    say(what, recall(store, name, board));
+}
+
+pub fn say_drop(what: &[u8], store: &mut [u8], name: &[u8]) {
+    say(what, drop_name(store, name));
 }
 
 pub fn say_stock(file: &[u8], board: &[u64]) {

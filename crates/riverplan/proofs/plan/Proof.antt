@@ -9,8 +9,8 @@ use Rattle.riverplan.proofs.plan.Tie as tie
 returns : tie.Need-returns
 returns c = search needs
 
-slice-aggregate-autumn : tie.Need-slice-aggregate-autumn
-slice-aggregate-autumn c = sym (length-take-le 360 (now (c .before .before .before .before .before .args .year)) (search needs))
+slice-aggregate-winter : tie.Need-slice-aggregate-winter
+slice-aggregate-winter c = sym (length-take-le 360 (now (c .before .before .before .before .before .args .year)) (search needs))
 
 sub-spring : tie.Need-sub-spring
 sub-spring c = search needs
@@ -47,7 +47,7 @@ plan-spec =
     tie.close
     (tie.spec
     returns
-    slice-aggregate-autumn
+    slice-aggregate-winter
     sub-spring
     part-spring-start
     part-spring-end
