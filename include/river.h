@@ -47,11 +47,13 @@ enum river_refusal {
     RIVER_BAD_PATTERN = 4,   /* the first delay pattern at fault: one whose percents sum to more than 100 */
     RIVER_BAD_RIGHT = 5,     /* the first right at fault */
     RIVER_BAD_LENGTH = 6,    /* place 0: runoff not one to a station, a board of another length, a report too short, a
-                                list too short for the reports of twelve months */
+                                list too short for the reports of twelve months, a store or a name of another length */
     RIVER_BAD_BOARD = 7,     /* place 0: a board that no run of months can leave */
     RIVER_BAD_RUNOFF = 8,    /* the first row whose runoff is above RIVER_MOST_RUNOFF, in the first such month */
     RIVER_BAD_BOOK = 9,      /* place 0: a runoff book that breaks its layout */
-    RIVER_NO_YEAR = 10       /* place 0: a year that the book does not list */
+    RIVER_NO_YEAR = 10,      /* place 0: a year that the book does not list */
+    RIVER_BAD_NAME = 11,     /* place 0: a name of zeros alone, or one to be recalled or dropped that is not there */
+    RIVER_STORE_FULL = 12    /* place 0: a new name that finds no empty entry */
 };
 
 /* ---- How many records a file has, and the most of each, and of runoff ---- */
@@ -127,6 +129,18 @@ enum river_reason {
 #define RIVER_BOOK_LENGTH(stations, years) RIVER_BOOK_BODY(stations, years, years)
 #define RIVER_BOOK_LONGEST RIVER_BOOK_LENGTH(RIVER_MOST_STATIONS, RIVER_MOST_YEARS)
 
+/* ---- A store: boards under names ---- */
+
+/* Four names of eight bytes, then four boards in the same order, each of RIVER_BOARD_LENGTH numbers of eight bytes, the
+   least first. A name is any eight bytes but zeros alone, which mark an empty entry; of one that stands twice the
+   earlier entry is meant. A store of zeros is empty: `static uint8_t store[RIVER_STORE_LENGTH];` is one. */
+#define RIVER_STORE_LENGTH 39264
+#define RIVER_STORE_ENTRIES 4
+#define RIVER_NAME_LENGTH 8
+#define RIVER_STORE_NAME(entry) (RIVER_NAME_LENGTH * (size_t)(entry)) /* the offset of an entry's name */
+#define RIVER_STORE_BOARD(entry) \
+    (RIVER_STORE_NAME(RIVER_STORE_ENTRIES) + 8 * RIVER_BOARD_LENGTH * (size_t)(entry)) /* and of its board */
+
 /* ---- The calls ---- */
 
 /* Checks a basin file and answers a number alone, 0 to 5.
@@ -197,6 +211,34 @@ struct river_answer river_find_year(const uint8_t *file, size_t length, const ui
 struct river_answer river_run_year(const uint8_t *file, size_t length, const uint8_t *book, size_t book_length,
                                    uint32_t year, uint64_t *board, size_t board_length, uint64_t *reports,
                                    size_t reports_length);
+
+/* Saves a board in a store: in place of the one under that name, or in the earliest empty entry. No basin is taken, so
+   that any numbers are saved. Refusals 6, 11 and 12.
+
+       static uint8_t store[RIVER_STORE_LENGTH];
+       const uint8_t march[RIVER_NAME_LENGTH] = {'M', 'A', 'R', 'C', 'H'};
+       struct river_answer answer = river_save(store, RIVER_STORE_LENGTH, march, RIVER_NAME_LENGTH, board,
+                                               RIVER_BOARD_LENGTH);
+       if (answer.number == RIVER_STORE_FULL)
+           puts("four other boards are saved"); */
+struct river_answer river_save(uint8_t *store, size_t store_length, const uint8_t *name, size_t name_length,
+                               const uint64_t *board, size_t board_length);
+
+/* Writes the numbers of a saved board, exactly as they were saved. Whether they are possible for a basin the next call
+   on the board judges. Refusals 6 and 11.
+
+       struct river_answer answer = river_recall(store, RIVER_STORE_LENGTH, march, RIVER_NAME_LENGTH, board,
+                                                 RIVER_BOARD_LENGTH);
+       if (answer.number == RIVER_BAD_NAME)
+           puts("no board is saved under that name"); */
+struct river_answer river_recall(const uint8_t *store, size_t store_length, const uint8_t *name, size_t name_length,
+                                 uint64_t *board, size_t board_length);
+
+/* Drops a saved board: the entry's name is set to zeros, its other bytes stay, and the entry serves again. Refusals 6
+   and 11.
+
+       struct river_answer answer = river_drop(store, RIVER_STORE_LENGTH, march, RIVER_NAME_LENGTH); */
+struct river_answer river_drop(uint8_t *store, size_t store_length, const uint8_t *name, size_t name_length);
 
 #ifdef __cplusplus
 }

@@ -1,7 +1,7 @@
 #!/usr/bin/env bash
 # The static library as its callers see it: the examples in C, C++ and Rust, then the numbers worked out by hand and the
-# comparison with the plain Rust engine, then check, month and year of both timed in one run. RIVER_LIB_DIR names the
-# folder of a libledger.a that is there already; without it the library is proved and built first.
+# comparison with the plain Rust engine, then check, month, year and store of both timed in one run. RIVER_LIB_DIR names
+# the folder of a libledger.a that is there already; without it the library is proved and built first.
 set -euo pipefail
 cd "$(dirname "$0")/.."
 
@@ -25,19 +25,23 @@ native test
 
 said=$(mktemp)
 trap 'rm -f "$said"' EXIT
-native test --test native --test native_month --test native_year --test native_stack -- --nocapture | tee "$said"
+native test --test native --test native_month --test native_year --test native_store --test native_stack \
+    -- --nocapture | tee "$said"
 # Adds up what the tests counted.
 count() {
     grep -oE "[0-9]+ $1" "$said" | awk '{ sum += $1 } END { print sum }'
 }
 total="$(count files:) files, $(count boards:) boards, $(count calls,) month calls, $(count refused:) of them refused, \
 $(count 'year runs,') year runs, $(count 'turned down:') of them refused, $(count look-ups:) look-ups, \
-$(count 'rights asked:') rights asked for short months"
+$(count 'rights asked:') rights asked for short months, $(count 'store calls,') store calls, \
+$(count 'sent back:') of them refused"
 echo "the library answers as the plain engine: $total"
-if [ -z "${RIVER_CALLS:-}${RIVER_YEARS:-}${RIVER_SEED:-}" ] && ! grep -qF "$total" tests/README.md; then
+asked=${RIVER_CALLS:-}${RIVER_YEARS:-}${RIVER_STORE_CALLS:-}${RIVER_SEED:-}
+if [ -z "$asked" ] && ! grep -qF "$total" tests/README.md; then
     echo "tests/README.md tells other counts" >&2
     exit 1
 fi
 native run --bin bench_check
 native run --bin bench_month
 native run --bin bench_year
+native run --bin bench_store

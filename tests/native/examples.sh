@@ -31,10 +31,11 @@ run() { # STORED NAME WORDS...
 
 gcc -std=c11 "${strict[@]}" -fsyntax-only tests/native/places.c
 ! has g++ || g++ "${strict[@]}" -x c++ -fsyntax-only tests/native/places.c
-for name in check verdict fresh month stock short_months year; do
+for name in check verdict fresh month stock short_months year store; do
     build examples "$name"
 done
 build tests/native refused
+build tests/native stores
 
 october=samples/october.basin.bin
 run examples/check.expected check samples/*.bin
@@ -44,7 +45,9 @@ run examples/month.expected month "$october" samples/october.months.bin
 run examples/stock.expected stock "$october"
 run examples/year.expected year samples/provo.basin.bin samples/provo.book.bin 1964
 run examples/short_months.expected short_months samples/provo.basin.bin samples/provo.book.bin 1964
+run examples/store.expected store "$october"
 run tests/native/refused.expected refused "$october"
+run tests/native/stores.expected stores
 
 # The files of rivercheck have its answers. Two cannot be read, which is all that stands on standard error.
 mapfile -t files <crates/rivercheck/args

@@ -1,5 +1,5 @@
-/* That the places of river.h follow one another, from the first to the last of a board, of a report and of a book. It
-   is compiled and not run. */
+/* That the places of river.h follow one another, from the first to the last of a board, of a report, of a book and of a
+   store. It is compiled and not run. */
 #include <assert.h>
 #include "river.h"
 
@@ -39,6 +39,13 @@ static_assert(RIVER_BOOK_BODY(3, 2, 1) == RIVER_BOOK_BODY(3, 2, 0) + 4 * 12 * 3,
 static_assert(RIVER_BOOK_LENGTH(3, 2) == RIVER_BOOK_BODY(3, 2, 2), "to the end");
 static_assert(RIVER_BOOK_LENGTH(3, 0) == 4, "a book of no year");
 static_assert(RIVER_BOOK_LONGEST == 4 * (1 + 2 * 20 + 20 * 12 * 64), "twenty years of 64 stations");
+
+static_assert(RIVER_STORE_NAME(0) == 0, "a store begins with its names");
+static_assert(RIVER_STORE_NAME(1) == RIVER_STORE_NAME(0) + RIVER_NAME_LENGTH, "name after name");
+static_assert(RIVER_STORE_BOARD(0) == RIVER_STORE_NAME(RIVER_STORE_ENTRIES), "then its boards");
+static_assert(RIVER_STORE_BOARD(1) == RIVER_STORE_BOARD(0) + sizeof(uint64_t) * RIVER_BOARD_LENGTH, "board after board");
+static_assert(RIVER_STORE_LENGTH == RIVER_STORE_BOARD(RIVER_STORE_ENTRIES), "to the end");
+static_assert(RIVER_STORE_LENGTH == 4 * 8 + 4 * 1226 * 8, "four names and four boards");
 
 static_assert(sizeof(struct river_answer) == 16, "two numbers");
 static_assert(sizeof(struct river_sums) == 32, "four numbers");

@@ -16,6 +16,9 @@ pub struct Calls {
     pub short_months: fn(&[u8], &[u64], usize) -> [u64; 3],
     pub find_year: fn(&[u8], &[u8], u32) -> Answer,
     pub run_year: fn(&[u8], &[u8], u32, &mut [u64], &mut [u64]) -> Answer,
+    pub save: fn(&mut [u8], &[u8], &[u64]) -> Answer,
+    pub recall: fn(&[u8], &[u8], &mut [u64]) -> Answer,
+    pub drop_name: fn(&mut [u8], &[u8]) -> Answer,
 }
 
 pub const ENGINES: &[Calls] = &[
@@ -28,6 +31,9 @@ pub const ENGINES: &[Calls] = &[
         short_months: engine::short_months,
         find_year: engine::find_year,
         run_year: engine::run_year,
+        save: engine::save,
+        recall: engine::recall,
+        drop_name: engine::drop_name,
     },
     #[cfg(feature = "native")]
     Calls {
@@ -39,6 +45,9 @@ pub const ENGINES: &[Calls] = &[
         short_months: ffi::short_months,
         find_year: ffi::find_year,
         run_year: ffi::run_year,
+        save: ffi::save,
+        recall: ffi::recall,
+        drop_name: ffi::drop_name,
     },
 ];
 

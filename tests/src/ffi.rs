@@ -74,6 +74,28 @@ mod c {
             reports: *mut u64,
             reports_len: usize,
         ) -> Answer;
+        pub fn river_save(
+            store: *mut u8,
+            store_len: usize,
+            name: *const u8,
+            name_len: usize,
+            board: *const u64,
+            board_len: usize,
+        ) -> Answer;
+        pub fn river_recall(
+            store: *const u8,
+            store_len: usize,
+            name: *const u8,
+            name_len: usize,
+            board: *mut u64,
+            board_len: usize,
+        ) -> Answer;
+        pub fn river_drop(
+            store: *mut u8,
+            store_len: usize,
+            name: *const u8,
+            name_len: usize,
+        ) -> Answer;
     }
 }
 
@@ -158,4 +180,37 @@ pub fn run_year(
             reports.len(),
         )
     })
+}
+
+/// Saves a board in a store under a name; 0, 0 or a refusal.
+pub fn save(store: &mut [u8], name: &[u8], board: &[u64]) -> Answer {
+    whole(unsafe {
+        c::river_save(
+            store.as_mut_ptr(),
+            store.len(),
+            name.as_ptr(),
+            name.len(),
+            board.as_ptr(),
+            board.len(),
+        )
+    })
+}
+
+/// Puts the numbers saved under a name on a board; 0, 0 or a refusal.
+pub fn recall(store: &[u8], name: &[u8], board: &mut [u64]) -> Answer {
+    whole(unsafe {
+        c::river_recall(
+            store.as_ptr(),
+            store.len(),
+            name.as_ptr(),
+            name.len(),
+            board.as_mut_ptr(),
+            board.len(),
+        )
+    })
+}
+
+/// Drops the board of a name; 0, 0 or a refusal.
+pub fn drop_name(store: &mut [u8], name: &[u8]) -> Answer {
+    whole(unsafe { c::river_drop(store.as_mut_ptr(), store.len(), name.as_ptr(), name.len()) })
 }

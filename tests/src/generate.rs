@@ -1,4 +1,5 @@
-//! A seeded generator of valid basins, runoff sheets, runoff books and possible boards.
+//! A seeded generator of valid basins, runoff sheets, runoff books, possible boards and stores
+//! of boards.
 
 use crate::engine::board::{due, most_due, BOARD, MARKS, NEXT_MONTH, SHORT, STORAGES, TAKEN};
 use crate::engine::records::*;
@@ -6,9 +7,11 @@ use crate::engine::records::*;
 mod bodies;
 mod books;
 mod rng;
+mod stores;
 use bodies::{extreme_table, losing, stations_of, up_to, with_bodies};
 pub use books::{any_listed, years_of};
 pub use rng::Rng;
+pub use stores::{any_name, any_numbers, any_store, NAMES};
 
 /// How many of each there are.
 #[derive(Clone, Copy, Debug)]

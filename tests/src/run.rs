@@ -78,6 +78,18 @@ impl Run {
         answer
     }
 
+    /// Saves the board in a store.
+    pub fn save(&self, store: &mut [u8], name: &[u8]) {
+        assert_eq!((self.calls.save)(store, name, &self.board), (0, 0));
+    }
+
+    /// Goes on from a saved board, which is possible; the tally starts anew on it.
+    pub fn recall(&mut self, store: &[u8], name: &[u8]) {
+        assert_eq!((self.calls.recall)(store, name, &mut self.board), (0, 0));
+        self.tally = Tally::on_board(&self.file, &self.board);
+        self.assert_short_months();
+    }
+
     /// The short months of every right, on the board and by the call, are the tally's.
     fn assert_short_months(&self) {
         for right in 0..self.rights {

@@ -2,9 +2,11 @@
 
 use river_tests::engine::book::{encode, WaterYear};
 use river_tests::engine::records::*;
+use river_tests::engine::store::{board_at, name_at, NO_NAME, STORE_BYTES};
 use river_tests::engine::tally::{path, row_below};
 use river_tests::engine::{board, check, find_year, fresh, stock};
-use river_tests::generate::{any_river, largest, river_of, sheet, straight, years_of, Rng, Size};
+use river_tests::generate::{any_river, any_store, largest, river_of, sheet, straight, years_of};
+use river_tests::generate::{Rng, Size, NAMES};
 
 #[test]
 fn valid_basins_are_accepted() {
@@ -235,4 +237,22 @@ fn coverage() {
     for what in wanted() {
         assert!(seen.get(&what).is_some_and(|&times| times > 20), "{what}: {:?}", seen.get(&what));
     }
+}
+
+/// Stores with every number of empty entries, names that stand once to four times, and a
+/// number behind them that looks like one.
+#[test]
+fn stores_of_all_kinds() {
+    let (mut empty, mut equal, mut like_a_name) = ([0; 5], [0; 5], 0);
+    for seed in 0..1000 {
+        let store = any_store(&mut Rng::new(seed));
+        assert_eq!(store.len(), STORE_BYTES);
+        let names = [0, 1, 2, 3].map(|entry| store[name_at(entry)].to_vec());
+        let times = |name: &[u8]| names.iter().filter(|there| *there == name).count();
+        empty[times(&NO_NAME)] += 1;
+        equal[NAMES.iter().map(|name| times(name)).max().unwrap()] += 1;
+        like_a_name += NAMES.iter().any(|name| store[board_at(0)].starts_with(name)) as usize;
+    }
+    assert!(empty.iter().chain(&equal).all(|&stores| stores > 20), "{empty:?}, {equal:?}");
+    assert!(like_a_name > 100, "{like_a_name}");
 }

@@ -9,7 +9,7 @@ use river_tests::engine::records::{Basin, MOST_STATIONS};
 use river_tests::engine::report::LONGEST;
 use river_tests::engine::{fresh, month, run_year};
 use river_tests::ffi;
-use river_tests::generate::{any_river, largest, sheet, straight, Rng};
+use river_tests::generate::{any_name, any_river, any_store, largest, sheet, straight, Rng};
 use std::arch::asm;
 use std::collections::BTreeMap;
 
@@ -102,6 +102,17 @@ impl Deepest {
         }
     }
 
+    /// Any name in a store, there or not.
+    fn see_store(&mut self, rng: &mut Rng) {
+        let (mut store, mut board) = (any_store(rng), vec![7; BOARD]);
+        for _ in 0..5 {
+            let name = any_name(rng);
+            self.see("save", || _ = ffi::save(&mut store, &name, &board));
+            self.see("recall", || _ = ffi::recall(&store, &name, &mut board));
+            self.see("drop", || _ = ffi::drop_name(&mut store, &name));
+        }
+    }
+
     /// Two years of a basin, from its fresh board.
     fn see_years(&mut self, basin: &Basin, tenths: u64) {
         let (file, rng) = (basin.encode(), &mut Rng::new(3));
@@ -136,6 +147,7 @@ fn a_call_needs_little_stack() {
         deepest.see_all(&river.file, &river.runoff(rng), &board);
         deepest.see_book(&river.file, &river.book(rng, 2), &board);
     }
+    (0..100).for_each(|_| deepest.see_store(rng));
     for &(_, _, edit) in BROKEN.iter() {
         let mut basin = rich_base();
         edit(&mut basin, rng);

@@ -8,6 +8,7 @@ use river_tests::calls::by_each;
 use river_tests::engine::board::{due, BOARD, NEXT_MONTH, SHORT, STORAGES, TAKEN};
 use river_tests::engine::book::{encode, WaterYear};
 use river_tests::engine::records::{Basin, MOST_RUNOFF};
+use river_tests::engine::store::STORE_BYTES;
 use river_tests::examples::*;
 use river_tests::run::Run;
 
@@ -171,5 +172,33 @@ fn a_year_after_a_year() {
         }
         assert_eq!(run.stock(), [0, 0, 0, 1]);
         assert_eq!(run.board[TAKEN + 1], 0);
+    });
+}
+
+/// From any month on a dry year is tried, by month calls and by a run; then the month is
+/// recalled, and the year goes on as if nothing had been tried (02, No. 7).
+#[test]
+fn a_dry_year_that_is_tried() {
+    by_each(|calls| {
+        let mut store = vec![0; STORE_BYTES];
+        let mut run = Run::of(calls, &small_river());
+        for m in 0..12 {
+            run.save(&mut store, b"MARCH\0\0\0");
+            let (saved, stock) = (run.board.clone(), run.stock());
+            for _ in 0..m {
+                run.month(&[0]);
+            }
+            assert_eq!(run.year(&book(), 1964).0, 0);
+            assert!(run.board != saved);
+            run.recall(&store, b"MARCH\0\0\0");
+            assert_eq!((&run.board, run.stock()), (&saved, stock));
+            assert_eq!(run.year(&book(), 1965), (0, 12 - m as u64));
+            assert_months(&mut run, m);
+            assert_after_september(&run.board);
+            run.recall(&store, b"MARCH\0\0\0");
+            run.month(&[RUNOFF[m]]);
+            assert_eq!(run.grants(), MONTHS[m].0);
+        }
+        assert_after_september(&run.board);
     });
 }

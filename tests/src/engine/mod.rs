@@ -18,6 +18,7 @@ pub mod sections;
 pub mod short_months;
 pub mod slip;
 pub mod split;
+pub mod store;
 pub mod tally;
 pub mod year;
 
@@ -77,4 +78,19 @@ pub fn run_year(
     reports: &mut [u64],
 ) -> Answer {
     year::run_year(&Faithful, file, book, year, board, reports)
+}
+
+/// Saves a board in a store under a name; 0, 0 or a refusal.
+pub fn save(store: &mut [u8], name: &[u8], board: &[u64]) -> Answer {
+    store::save(&Faithful, store, name, board)
+}
+
+/// Puts the numbers saved under a name on a board; 0, 0 or a refusal.
+pub fn recall(store: &[u8], name: &[u8], board: &mut [u64]) -> Answer {
+    store::recall(&Faithful, store, name, board)
+}
+
+/// Drops the board of a name; 0, 0 or a refusal.
+pub fn drop_name(store: &mut [u8], name: &[u8]) -> Answer {
+    store::drop_name(&Faithful, store, name)
 }

@@ -220,6 +220,48 @@ slips! {
     ReportsByMonth: "a report stands at the place of its month, not of its call",
     ReportsTailCleared: "places beyond the reports are set to 0",
     TwelveAnswered: "the answer tells twelve calls always",
+    // The store.
+    LaterOfTwoNames: "of a name that stands twice the later is meant",
+    FifthName: "a fifth name is looked for where the first board begins",
+    ThreeEntries: "the last entry's name is never found",
+    LastByteOfNameIgnored: "the last byte of a name is not compared",
+    NameUpToZeroByte: "names are compared up to their first zero byte",
+    NamesWithoutCase: "names are compared without regard to upper and lower case",
+    EmptyEntryBeforeName: "an empty entry before that of its name is saved in",
+    LatestEmptyEntry: "a new name takes the latest empty entry",
+    EmptyByFirstByte: "an entry whose name begins with a zero byte is empty",
+    SavedInFirstEntry: "every board is saved in the first entry",
+    NameThereRefused: "a name that is there is not saved again",
+    SaveJudgesMonth: "a board whose month is above 11 is not saved",
+    ZeroNameSaved: "a name of zeros is saved under",
+    ZeroNameFound: "a name of zeros finds an empty entry, to recall or drop it",
+    FullBeforeZeroName: "a full store is told before a name of zeros",
+    ZeroNameBeforeLengths: "a name of zeros is told before a wrong length",
+    LongerStoreAccepted: "a store longer than 39,264 is accepted",
+    LongerBoardStored: "a board longer than 1226 is saved and recalled",
+    ShorterNamePadded: "a name shorter than 8 is accepted, with zeros behind it",
+    LongerNameCut: "of a name longer than 8 the first 8 bytes are taken",
+    FullStoreTaken: "a new name takes the last entry of a full store",
+    FullStoreRenamed: "a new name that is refused stands in the last entry",
+    MissingToldAsFull: "a name that is not there is told with 12",
+    EntryAnswered: "the answer tells the entry",
+    RefusedRecallClears: "a refused recall clears the board",
+    BigEndian: "the greatest byte of a number stands first",
+    LowHalfRecalled: "only the low half of a number is recalled",
+    LastNumberNotSaved: "the last number of a board is not saved",
+    WordsNotSaved: "the words of short months are not saved",
+    NameBeforeItsBoard: "each name stands before its own board",
+    DropClearsBoard: "a drop clears the board",
+    DropOfAll: "a drop drops every entry of the name",
+    DropMovesUp: "a drop moves the later entries up",
+    DropOfMissingAccepted: "the drop of a name that is not there is accepted",
+}
+
+impl Slip {
+    /// Whether it is one of the store, whose calls share nothing with the others.
+    pub fn of_store(self) -> bool {
+        self as usize >= Slip::LaterOfTwoNames as usize
+    }
 }
 
 /// How the rules are told: rightly, or with one slip.

@@ -2,6 +2,7 @@
 //! generated inputs. Prints the table that has to stand in README.md:
 //! `cargo test --release --test slips -- --nocapture`.
 
+mod stores;
 mod years;
 
 use river_tests::damage::*;
@@ -15,6 +16,7 @@ use river_tests::engine::short_months::short_months;
 use river_tests::engine::slip::{Faithful, Slipped, Telling, ALL};
 use river_tests::engine::{self, check, fresh, report, stock};
 use river_tests::generate::{any_river, largest, River, Rng};
+use stores::{asked, find_in_stores, lists};
 use years::{asks, find_in_years};
 
 /// A difference between the right engine and a wrong one: where it was seen.
@@ -235,32 +237,40 @@ fn find_in_calls(wrong: &impl Telling) -> (Seen, usize) {
 
 #[test]
 fn every_slip_is_seen() {
-    let (files, asks) = (files(), asks());
+    let (files, asks, lists) = (files(), asks(), lists());
     let mut unseen = Vec::new();
     let mut table = String::from(
-        "| slip | what is wrong | files until seen | calls until seen | years until seen |\n",
+        "| slip | what is wrong | files until seen | calls until seen | years until seen | store \
+         calls until seen |\n",
     );
-    table += "|---|---|---|---|---|\n";
+    table += "|---|---|---|---|---|---|\n";
     for &(slip, name, wrong) in ALL {
         let wrong_engine = Slipped(slip);
-        let in_files = find_in_files(&wrong_engine, &files);
-        // A slip of the file's check alone shows in no call on a valid basin.
-        let (seen, calls) = find_in_calls(&wrong_engine);
-        let in_years = find_in_years(&wrong_engine, &asks);
-        let told = |number: usize, seen: &str| format!("{number}, {seen}");
-        let files_told = in_files.map_or("-".into(), |place| place.to_string());
-        let calls_told = seen.map_or("-".into(), |seen| told(calls, seen));
-        let years_told = in_years.map_or("-".into(), |(number, seen)| told(number, seen));
-        table += &format!("| {name} | {wrong} | {files_told} | {calls_told} | {years_told} |\n");
-        if in_files.is_none() && seen.is_none() && in_years.is_none() {
+        let found = if slip.of_store() {
+            [None, None, None, find_in_stores(&wrong_engine, &lists)]
+        } else {
+            // A slip of the file's check alone shows in no call on a valid basin.
+            let (seen, calls) = find_in_calls(&wrong_engine);
+            let in_files = find_in_files(&wrong_engine, &files).map(|place| (place, ""));
+            let in_years = find_in_years(&wrong_engine, &asks);
+            [in_files, seen.map(|seen| (calls, seen)), in_years, None]
+        };
+        let told = found.map(|found| match found {
+            None => "-".to_string(),
+            Some((place, "")) => place.to_string(),
+            Some((number, seen)) => format!("{number}, {seen}"),
+        });
+        table += &format!("| {name} | {wrong} | {} |\n", told.join(" | "));
+        if found == [None; 4] {
             unseen.push(name);
         }
     }
     let counts = format!(
-        "{} slips, {} files for the check, {} years asked for",
+        "{} slips, {} files for the check, {} years asked for, {} calls on stores",
         ALL.len(),
         files.len(),
-        asks.len()
+        asks.len(),
+        asked(&lists)
     );
     println!("{table}\n{counts}");
     assert!(unseen.is_empty(), "not seen: {unseen:?}");
@@ -275,6 +285,7 @@ fn every_slip_is_seen() {
 fn the_right_engine_differs_nowhere() {
     assert_eq!(find_in_files(&Faithful, &files()), None);
     assert_eq!(find_in_years(&Faithful, &asks()), None);
+    assert_eq!(find_in_stores(&Faithful, &lists()), None);
     let (seen, calls) = find_in_calls(&Faithful);
     assert_eq!(seen, None);
     println!("{calls} calls without a difference where there is none");

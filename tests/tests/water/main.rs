@@ -2,9 +2,13 @@
 //! possible. The tally asserts the water sum, the reservoirs' accounts and the bounds of
 //! available flow in every call; here the engine's answer, board and report are compared
 //! with what the tally keeps, and after every call, refused or not, the short months of
-//! every right. Lists with years of a book among the months are in `years`.
+//! every right. Lists with years of a book among the months are in `years`, those with calls on
+//! a store too in `stores`, and what a trial leaves behind in `trials`.
 
 mod compare;
+mod shelf;
+mod stores;
+mod trials;
 mod years;
 
 use compare::{compare_board, compare_report, compare_short_months, Compared, Start};

@@ -40,8 +40,9 @@ impl Tally {
         }
     }
 
-    /// It begins with what a possible board tells, and no month. The sums then count from
-    /// that board: what it has stored and due stands for what the file fills in.
+    /// It begins with what a possible board tells, and no month: after a recall anew (02, No. 7).
+    /// The sums then count from that board: what it has stored and due stands for what the file
+    /// fills in, and in a reservoir's account what it has stored alone.
     pub fn on_board(file: &[u8], board: &[u64]) -> Tally {
         let mut tally = Tally::new(file);
         let number = |place: usize| board[place] as i128;
