@@ -34,7 +34,10 @@ impl<N: Number> Lent<N> {
     pub fn assert_is(&self, expected: &[N], list: &str, at: &dyn Display) {
         let expected = Lent::of(expected).0;
         assert_eq!(self.0.len(), expected.len());
-        if let Some(place) = (0..expected.len()).find(|&place| self.0[place] != expected[place]) {
+        // As a whole, since a store has many bytes; the place only for the message.
+        if self.0 != expected {
+            let differs = |&place: &usize| self.0[place] != expected[place];
+            let place = (0..expected.len()).find(differs).unwrap();
             let (native, expected) = (self.0[place], expected[place]);
             let place = place as isize - N::BESIDE.len() as isize;
             panic!("{at}: {list}, place {place} is {native}, not {expected}");
