@@ -112,6 +112,19 @@ impl Desk<'_> {
         self.say(what, answer);
     }
 
+    /// All three calls with one name.
+    fn ask(&mut self, what: &str, store: Option<&mut [u8]>, name: &[u8]) {
+        let store = store.unwrap_or(&mut self.store);
+        let answers = [
+            save(store, name, &self.board),
+            recall(store, name, &mut self.board),
+            drop_name(store, name),
+        ];
+        let told: String =
+            answers.iter().map(|(number, place)| format!(" {number} {place}")).collect();
+        self.text += &format!("{what}, save, recall, drop:{told}\n");
+    }
+
     fn month(&mut self, sheet: &[u8]) -> Answer {
         month(&self.plan.basin, &numbers(sheet), &mut self.board, &mut [0; LONGEST])
     }
@@ -142,28 +155,18 @@ impl Desk<'_> {
     }
 
     fn be_turned_down(&mut self) {
-        let mut short = vec![0; BOARD - 1];
-        let answer = save(&mut vec![0; STORE_BYTES - 1], b"MARCH   ", &self.board);
-        self.say("save, store of 39263 bytes", answer);
-        self.save("save, name of seven bytes", b"MARCH  ");
-        let answer = save(&mut self.store, b"MARCH   ", &short);
+        self.ask("a store of 39263 bytes", Some(&mut vec![0; STORE_BYTES - 1]), b"MARCH   ");
+        self.ask("a name of seven bytes", None, b"MARCH  ");
+        self.ask("a name of zeros", None, &NO_NAME);
+        let answer = save(&mut self.store, b"MARCH   ", &vec![0; BOARD - 1]);
         self.say("save, board of 1225", answer);
-        let answer = recall(&self.store, b"MARCH   ", &mut short);
-        self.say("recall, board of 1225", answer);
-        self.drop_name("drop, name of nine bytes", b"MARCH    ");
-        self.save("save, eight zero bytes", &NO_NAME);
-        self.recall("recall, eight zero bytes", &NO_NAME);
-        self.drop_name("drop, eight zero bytes", &NO_NAME);
-        self.recall("recall APRIL", b"APRIL   ");
-        self.drop_name("drop APRIL", b"APRIL   ");
         self.say_stock();
     }
 
     fn fill_the_store(&mut self) {
         self.save("save APRIL", b"APRIL   ");
         self.save("save MAY", b"MAY     ");
-        self.save("save JUNE, a fifth", b"JUNE    ");
-        self.save("save MAY again", b"MAY     ");
+        self.ask("JUNE, a fifth", None, b"JUNE    ");
         self.drop_name("drop DRY", b"DRY     ");
         self.recall("recall DRY", b"DRY     ");
         self.save("save JUNE", b"JUNE    ");

@@ -21,21 +21,14 @@ const TRIED: &str = "as if nothing had been tried: ";
 /// What is printed after the trial, with the rules' answers; at a stock line the sums of
 /// September, of the board before March, and of March.
 const AFTERWARDS: &str = "\
-save, store of 39263 bytes: 6 0
-save, name of seven bytes: 6 0
+a store of 39263 bytes, save, recall, drop: 6 0 6 0 6 0
+a name of seven bytes, save, recall, drop: 6 0 6 0 6 0
+a name of zeros, save, recall, drop: 11 0 11 0 11 0
 save, board of 1225: 6 0
-recall, board of 1225: 6 0
-drop, name of nine bytes: 6 0
-save, eight zero bytes: 11 0
-recall, eight zero bytes: 11 0
-drop, eight zero bytes: 11 0
-recall APRIL: 11 0
-drop APRIL: 11 0
 stock 0 0 SEPTEMBER
 save APRIL: 0 0
 save MAY: 0 0
-save JUNE, a fifth: 12 0
-save MAY again: 0 0
+JUNE, a fifth, save, recall, drop: 12 0 11 0 11 0
 drop DRY: 0 0
 recall DRY: 11 0
 save JUNE: 0 0

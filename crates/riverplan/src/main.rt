@@ -1,8 +1,8 @@
 // Plans on the Provo River, water year 1967: a dry spring is tried from March on, and then March is returned to, as if nothing had been tried.
 // Afterwards the store of named boards is asked for what it turns down. Each answer is printed.
+use entries::copies::STORE_LENGTH;
 use files::read_whole;
 use places::board::BOARD_LENGTH;
-use store::copies::STORE_LENGTH;
 
 mod listed;
 mod saying;

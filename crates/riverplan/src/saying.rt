@@ -11,11 +11,25 @@ fn say_number(n: u64) {
     io::print_decimal(STDOUT_FILENO, n);
 }
 
+fn say_answer(answer: Answer) {
+    say_number(answer.number);
+    say_number(answer.place);
+}
+
 // What was called, and its answer.
 pub fn say(what: &[u8], answer: Answer) {
     io::write_all(STDOUT_FILENO, what);
-    say_number(answer.number);
-    say_number(answer.place);
+    say_answer(answer);
+    io::write_all(STDOUT_FILENO, b"\n");
+}
+
+// All three calls with one name, in a line.
+pub fn ask(what: &[u8], store: &mut [u8], name: &[u8], board: &mut [u64]) {
+    io::write_all(STDOUT_FILENO, what);
+    io::write_all(STDOUT_FILENO, b", save, recall, drop:");
+    say_answer(save(store, name, board));
+    say_answer(recall(store, name, board));
+    say_answer(drop_name(store, name));
     io::write_all(STDOUT_FILENO, b"\n");
 }
 

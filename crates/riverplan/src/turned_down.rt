@@ -2,66 +2,39 @@
 ghost use mathlib.Core.Path.{_≡_};
 ghost use Prim.Native.Nat.{_≤_};
 ghost use lib.ListN.{length};
-ghost use Rattle.store.specs.Store.{storeLength};
+ghost use Rattle.entries.specs.Entries.{storeLength};
 use crate::STATIONS;
+use crate::saying::ask;
 use crate::saying::say;
 use crate::saying::say_drop;
 use crate::saying::say_recall;
 use crate::saying::say_save;
 use crate::saying::say_stock;
+use entries::copies::STORE_LENGTH;
+use entries::names::fixed;
+use entries::names::write_name;
 use month::month;
 use places::board::BOARD_LENGTH;
 use places::board::MONTH;
 use places::report::MOST_REPORT;
 use sheets::decode;
-use store::copies::STORE_LENGTH;
-use store::names::fixed;
-use store::names::write_name;
 
-// Refusal 6: a list that is too short or too long.
-fn wrong_lengths(store: &mut [u8], board: &[u64]) {
-    let mut small = [0u8; STORE_LENGTH - 1];
-    let mut short = [0u64; BOARD_LENGTH - 1];
-    say_save(
-        b"save, store of 39263 bytes:",
-        &mut small,
-        b"MARCH   ",
-        board,
-    );
-    say_save(b"save, name of seven bytes:", store, b"MARCH  ", board);
-    say_save(b"save, board of 1225:", store, b"MARCH   ", &short);
-    say_recall(b"recall, board of 1225:", store, b"MARCH   ", &mut short);
-    say_drop(b"drop, name of nine bytes:", store, b"MARCH    ");
-}
-
-// Refusal 11: eight zero bytes are no name.
-fn no_name(store: &mut [u8], board: &mut [u64]) {
-    let zeros = [0u8; 8];
-    say_save(b"save, eight zero bytes:", store, &zeros, board);
-    say_recall(b"recall, eight zero bytes:", store, &zeros, board);
-    say_drop(b"drop, eight zero bytes:", store, &zeros);
-}
-
-// Refusal 11 again: a name that was never saved.
-fn not_there(store: &mut [u8], board: &mut [u64]) {
-    say_recall(b"recall APRIL:", store, b"APRIL   ", board);
-    say_drop(b"drop APRIL:", store, b"APRIL   ");
-}
-
-// The stock is still that of September.
+// Refusal 6: a list that is too short. Refusal 11: eight zero bytes are no name. The stock is still that of September.
 fn refused(file: &[u8], store: &mut [u8], board: &mut [u64]) {
-    wrong_lengths(store, board);
-    no_name(store, board);
-    not_there(store, board);
+    let mut small = [0u8; STORE_LENGTH - 1];
+    let short = [0u64; BOARD_LENGTH - 1];
+    ask(b"a store of 39263 bytes", &mut small, b"MARCH   ", board);
+    ask(b"a name of seven bytes", store, b"MARCH  ", board);
+    ask(b"a name of zeros", store, &[0; 8], board);
+    say_save(b"save, board of 1225:", store, b"MARCH   ", &short);
     say_stock(file, board);
 }
 
-// Refusal 12: a store has four names.
-fn fifth_name(store: &mut [u8], board: &[u64]) {
+// Refusal 12: a store has four names. Refusal 11 again: a name that is not there can't be recalled nor dropped.
+fn fifth_name(store: &mut [u8], board: &mut [u64]) {
     say_save(b"save APRIL:", store, b"APRIL   ", board);
     say_save(b"save MAY:", store, b"MAY     ", board);
-    say_save(b"save JUNE, a fifth:", store, b"JUNE    ", board);
-    say_save(b"save MAY again:", store, b"MAY     ", board);
+    ask(b"JUNE, a fifth", store, b"JUNE    ", board);
 }
 
 // Once a name is dropped its place serves the fifth.
