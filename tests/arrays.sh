@@ -18,7 +18,7 @@ arrays() {
     local file
     find "$1"/*/src -name '*.rt' | while read -r file; do
         code "$file" | { grep -oE "$array" || true; } | sed "s|^|${file#"$1"/} |"
-    done | grep -vE '^river(calls|check)/' | sort
+    done | grep -vE '^river(calls|check|plan)/' | sort
 }
 told() {
     sed -nE 's/^\| `([a-z]+\/src\/[a-z]+\.rt)` \| `([^`]*)`.*/\1 \2/p' docs/PERFORMANCE.md | sort
