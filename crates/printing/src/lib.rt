@@ -1,3 +1,4 @@
-// What the programs that list share between a list of text and standard output.
+// What the programs share that write to standard output: a listing sent on block by block, and the lines of calls and their answers.
 pub mod blocks;
 pub mod output;
+pub mod saying;

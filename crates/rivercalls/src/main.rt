@@ -2,12 +2,12 @@
 // the same of years of a book. The good month and the good year come last, so they show that the calls before them changed nothing. Then the
 // short months of October's rights over a year and a month; last the same October by other patterns, with what goes deep.
 ghost use Rattle.io.specs.Counts.{Counts};
-use crate::saying::say;
-use crate::saying::say_stock;
 use fresh::fresh;
 use month::month;
 use places::board::BOARD_LENGTH;
 use places::board::MONTH;
+use printing::saying::say;
+use printing::saying::say_stock;
 
 mod booked;
 mod counting;

@@ -1,27 +1,14 @@
-// The lines that are printed.
-use answers::Answer;
+// The lines of short months and of numbers with a name.
 use libc::STDOUT_FILENO;
+use printing::saying::say_end;
+use printing::saying::say_number;
 use stock::months::Months;
-use stock::stock;
-
-fn say_number(n: u64) {
-    io::write_all(STDOUT_FILENO, b" ");
-    io::print_decimal(STDOUT_FILENO, n);
-}
 
 // A number by its name.
 pub fn say_one(what: &[u8], n: u64) {
     io::write_all(STDOUT_FILENO, what);
     say_number(n);
-    io::write_all(STDOUT_FILENO, b"\n");
-}
-
-// What was called, and its answer.
-pub fn say(what: &[u8], answer: Answer) {
-    io::write_all(STDOUT_FILENO, what);
-    say_number(answer.number);
-    say_number(answer.place);
-    io::write_all(STDOUT_FILENO, b"\n");
+    say_end();
 }
 
 // What was asked, and the short months.
@@ -30,7 +17,7 @@ pub fn say_months(what: &[u8], told: Months) {
     say_number(told.number);
     say_number(told.place);
     say_number(told.months);
-    io::write_all(STDOUT_FILENO, b"\n");
+    say_end();
 }
 
 // The short months of a right, by its place in the list.
@@ -38,14 +25,4 @@ pub fn say_right(right: usize, told: Months) {
     io::write_all(STDOUT_FILENO, b"short months of right");
     say_number(right as u64);
     say_months(b":", told);
-}
-
-pub fn say_stock(file: &[u8], board: &[u64]) {
-    let sums = stock(file, board);
-    io::write_all(STDOUT_FILENO, b"stock");
-    say_number(sums.number);
-    say_number(sums.place);
-    say_number(sums.storage);
-    say_number(sums.due);
-    io::write_all(STDOUT_FILENO, b"\n");
 }

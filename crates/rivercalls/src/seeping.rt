@@ -1,12 +1,12 @@
 // The worked October by other patterns than its own 50, 30 and 20: of the 805 that return of right 1, the pattern's sum decides what goes
 // deep. It is the last number of the report.
-use crate::saying::say;
 use crate::saying::say_one;
-use crate::saying::say_stock;
 use fresh::fresh;
 use month::month;
 use places::board::BOARD_LENGTH;
 use places::report::deep_place;
+use printing::saying::say;
+use printing::saying::say_stock;
 
 // October's only pattern begins at byte 124.
 const PATTERN: usize = 124;

@@ -1,27 +1,12 @@
-// The lines that are printed, but for those of the listing; and the calls of a store, each with its line.
-use answers::Answer;
+// The calls of a store, each with its line; and the line of a comparison.
 use libc::STDOUT_FILENO;
-use stock::stock;
+use printing::saying::say;
+use printing::saying::say_answer;
+use printing::saying::say_end;
+use printing::saying::say_number;
 use store::drop_name;
 use store::recall;
 use store::save;
-
-fn say_number(n: u64) {
-    io::write_all(STDOUT_FILENO, b" ");
-    io::print_decimal(STDOUT_FILENO, n);
-}
-
-fn say_answer(answer: Answer) {
-    say_number(answer.number);
-    say_number(answer.place);
-}
-
-// What was called, and its answer.
-pub fn say(what: &[u8], answer: Answer) {
-    io::write_all(STDOUT_FILENO, what);
-    say_answer(answer);
-    io::write_all(STDOUT_FILENO, b"\n");
-}
 
 // All three calls with one name, in a line.
 pub fn ask(what: &[u8], store: &mut [u8], name: &[u8], board: &mut [u64]) {
@@ -30,7 +15,7 @@ pub fn ask(what: &[u8], store: &mut [u8], name: &[u8], board: &mut [u64]) {
     say_answer(save(store, name, board));
     say_answer(recall(store, name, board));
     say_answer(drop_name(store, name));
-    io::write_all(STDOUT_FILENO, b"\n");
+    say_end();
 }
 
 pub fn say_save(what: &[u8], store: &mut [u8], name: &[u8], board: &[u64]) {
@@ -43,16 +28,6 @@ pub fn say_recall(what: &[u8], store: &[u8], name: &[u8], board: &mut [u64]) {
 
 pub fn say_drop(what: &[u8], store: &mut [u8], name: &[u8]) {
     say(what, drop_name(store, name));
-}
-
-pub fn say_stock(file: &[u8], board: &[u64]) {
-    let sums = stock(file, board);
-    io::write_all(STDOUT_FILENO, b"stock");
-    say_number(sums.number);
-    say_number(sums.place);
-    say_number(sums.storage);
-    say_number(sums.due);
-    io::write_all(STDOUT_FILENO, b"\n");
 }
 
 // Whether two texts, the first of so many bytes, are the same.

@@ -5,11 +5,9 @@ ghost use lib.ListN.{length};
 ghost use Rattle.entries.specs.Entries.{storeLength};
 use crate::STATIONS;
 use crate::saying::ask;
-use crate::saying::say;
 use crate::saying::say_drop;
 use crate::saying::say_recall;
 use crate::saying::say_save;
-use crate::saying::say_stock;
 use entries::copies::STORE_LENGTH;
 use entries::names::fixed;
 use entries::names::write_name;
@@ -17,6 +15,8 @@ use month::month;
 use places::board::BOARD_LENGTH;
 use places::board::MONTH;
 use places::report::MOST_REPORT;
+use printing::saying::say;
+use printing::saying::say_stock;
 use sheets::decode;
 
 // Refusal 6: a list that is too short. Refusal 11: eight zero bytes are no name. The stock is still that of September.
