@@ -6,10 +6,8 @@ use mathlib.Core.Option.{Option, none, some}
 use Prim.Native.Nat.{ℕ}
 use lib.ListN.{length}
 use Rattle.general.specs.Tests.{_and_}
-use Rattle.general.proofs.Tests.{eqb-same}
-use Rattle.rules.specs.Basin.{Basin}
 use Rattle.rules.specs.Tally.{listsFit, overLimit, overAnswer}
-use Rattle.rules.specs.Years.{roomForYear, monthly, yearly}
+use Rattle.rules.specs.Years.{roomForYear}
 use Rattle.rules.specs.Answers.{Answer, told, orElse, unless}
 use Rattle.rules.specs.declared.Verdict.the-variants.{Accepted as AcceptedFile, Lists, Board}
 use Rattle.records.specs.Records.{basinOf}
@@ -18,12 +16,12 @@ use Rattle.boards.specs.Board.{possible}
 use Rattle.places.specs.Board.{boardLength}
 use Rattle.answers.specs.Answers.{lentRefusal, settled}
 use Rattle.answers.proofs.Answers.{no-refusal}
-use Rattle.month.specs.Month.{callWith, allFit, monthRefusal, Outcome, monthSettled, monthOf, MonthMeets}
+use Rattle.month.specs.Month.{allFit, monthRefusal, Outcome, monthSettled, monthOf, MonthMeets}
 use Rattle.book.specs.Book.{lookupRefusal}
 use Rattle.years.specs.Years.{Made, yearMade, sheetsLeft, runFits, runRefusal, runSettled, yearOf, YearMeets}
 use Rattle.account.specs.Runs.{MonthCall, YearCall, monthEvent, yearEvent}
 use Rattle.account.specs.Reports.{callOf}
-use Rattle.account.specs.Claim.{astray, runIn, strayAnswer, Follows}
+use Rattle.account.specs.Claim.{astray, strayAnswer, Follows}
 use Rattle.account.proofs.Months.{lists-same}
 
 -- ---- a refusal that there is

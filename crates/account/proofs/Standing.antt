@@ -2,16 +2,14 @@
 use mathlib.Core.Path.{_≡_, refl, sym, ap, _∙_, subst}
 use mathlib.Core.Bool.{Bool, true, false, cond}
 use mathlib.Core.List.{List, [], _∷_, _++_}
-use mathlib.Core.Option.{Option, none}
-use Prim.Native.Nat.{ℕ, _<_}
+use Prim.Native.Nat.{ℕ}
 use lib.ListN.{length}
 use Rattle.general.specs.Tests.{_and_}
 use Rattle.general.proofs.Tests.{eqb-same, and-true}
 use Rattle.rules.specs.Basin.{Basin}
 use Rattle.rules.specs.Tally.{Start, freshStart, Tally, begun, standing, fresh}
 use Rattle.rules.specs.Years.{Entry, afterEntry, afterEntries}
-use Rattle.rules.specs.Answers.{Answer, orElse, unless}
-use Rattle.rules.specs.Water.{WaterKept}
+use Rattle.rules.specs.Answers.{orElse, unless}
 use Rattle.rules.specs.Shortness.{shortNow}
 use Rattle.rules.specs.Accepted.{Accepted}
 use Rattle.rules.specs.Theorems.{Possible}
@@ -26,7 +24,6 @@ use Rattle.answers.specs.Answers.{accepted}
 use Rattle.answers.proofs.Answers.{no-refusal}
 use Rattle.fresh.specs.Fresh.{Fresh, freshRefusal, freshBoard, freshSettled, freshOf}
 use Rattle.fresh.proofs.Start.{fresh-size, fresh-can}
-use Rattle.stock.specs.Months.{shortMonthsOf}
 use Rattle.entries.specs.Entries.{boardAt, firstNamed}
 use Rattle.store.specs.Calls.{storeFits, nameRefusal, Meant, refused, entry, meantBy, recallMeans, nameMeans, Recalled, recallBy, recallOf}
 use Rattle.entries.proofs.Numbers.{board-length}

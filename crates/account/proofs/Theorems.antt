@@ -1,9 +1,9 @@
 -- The theorems of specs/Runs.antt, Reports.antt and Claim.antt. Assumes nothing.
-use mathlib.Core.Path.{_≡_, sym, ap, _∙_, subst}
+use mathlib.Core.Path.{sym, ap, _∙_, subst}
 use mathlib.Core.List.{List}
 use Prim.Native.Nat.{ℕ}
 use Rattle.rules.specs.Basin.{Basin}
-use Rattle.rules.specs.Tally.{Start, Tally}
+use Rattle.rules.specs.Tally.{Start}
 use Rattle.rules.specs.Shortness.{shortNow}
 use Rattle.rules.proofs.Theorems.{fresh}
 use Rattle.records.specs.Records.{basinOf}
@@ -11,9 +11,9 @@ use Rattle.filecheck.proofs.Accepted.{accepted-facts}
 use Rattle.stock.specs.Months.{shortMonthsOf}
 use Rattle.store.specs.Calls.{Recalled}
 use Rattle.store.proofs.Theorems.{comeBack}
-use Rattle.account.specs.Runs.{Run, boardLeft, OneReport, OneYear, OneRun}
+use Rattle.account.specs.Runs.{Run, OneReport, OneYear, OneRun}
 use Rattle.account.specs.Reports.{TellsAll}
-use Rattle.account.specs.Claim.{Standing, tallied, boardThere, Kept, KeptAt, Accounted, Claim, FreshStarts, ShortFromFresh, Untried, Checkpoints}
+use Rattle.account.specs.Claim.{boardThere, Kept, KeptAt, Accounted, Claim, FreshStarts, ShortFromFresh, Untried, Checkpoints}
 use Rattle.account.proofs.Telling.{all-told}
 use Rattle.account.proofs.Standing.{fresh-facts}
 use Rattle.account.proofs.Account.{accounted, board-checkpoints}

@@ -30,7 +30,7 @@ use Rattle.years.specs.Years.{yearSheets}
 use Rattle.entries.specs.Entries.{boardAt}
 use Rattle.store.specs.Calls.{Meant, refused, entry, nameMeans, saveOf, recallOf}
 use Rattle.store.specs.Theorems.{Words, Change, changeName, afterChanges}
-use Rattle.account.specs.Runs.{MonthCall, YearCall, FreshCall, RecallCall, Event, monthEvent, yearEvent, freshEvent, recallEvent, answerBy, leftBy, Run, boardLeft, lentTo}
+use Rattle.account.specs.Runs.{MonthCall, YearCall, Event, monthEvent, yearEvent, freshEvent, recallEvent, answerBy, leftBy, Run, boardLeft, lentTo}
 use Rattle.account.specs.Reports.{callOf, MonthReport, RunReports}
 
 -- ---- boards and the tally

@@ -5,7 +5,7 @@ use mathlib.Core.List.{List, [], _∷_, _++_}
 use mathlib.Core.Option.{Option, none, some}
 use Prim.Native.Nat.{ℕ, _+_, _*_}
 use lib.Dec.{eqb}
-use lib.ListN.{getD, take, drop, replicate}
+use lib.ListN.{take, drop, replicate}
 use Rattle.general.specs.Tables.{tab}
 use Rattle.general.specs.Tests.{allTo, firstAt}
 use Rattle.numbers.specs.Bytes.{byteAt, le64At, bytes64}

@@ -1,6 +1,6 @@
 -- The names of a store looked up, and numbers as bytes: small cases computed. Of a store only its names are written out.
 use mathlib.Core.Path.{_≡_}
-use mathlib.Core.Bool.{true, false}
+use mathlib.Core.Bool.{false}
 use mathlib.Core.List.{List, [], _∷_, _++_}
 use mathlib.Core.Option.{none, some}
 use Prim.Native.Nat.{ℕ}

@@ -18,7 +18,7 @@ use Rattle.boards.specs.Board.{boardFits}
 use Rattle.answers.specs.Answers.{accepted, settled}
 use Rattle.answers.proofs.Answers.{settled-some}
 use Rattle.entries.specs.Entries.{nameLength, nameStart, boardStart, storeLength, boardAt, bytesOf, noName, sameName, firstNamed, placeFor}
-use Rattle.store.specs.Calls.{storeFits, nameRefusal, Meant, refused, entry, meantBy, saveMeans, recallMeans, nameMeans, Stored, saved, saveBy, saveOf, Recalled, recallBy, recallOf, dropped, dropBy, dropOf}
+use Rattle.store.specs.Calls.{storeFits, nameRefusal, Meant, refused, entry, meantBy, saveMeans, recallMeans, nameMeans, saved, saveBy, saveOf, recallBy, recallOf, dropped, dropBy, dropOf}
 
 -- ---- lengths
 

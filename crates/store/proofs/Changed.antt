@@ -18,7 +18,7 @@ use Rattle.numbers.proofs.Words.{word-same, eight-read}
 use Rattle.general.specs.Parts.{over}
 use Rattle.numbers.specs.Bytes.{le64At}
 use Rattle.places.specs.Board.{boardLength}
-use Rattle.entries.specs.Entries.{boardBytes, storeLength, nameAt, nameStart, boardStart, boardAt, bytesOf, noName, sameName, isNamed, firstNamed}
+use Rattle.entries.specs.Entries.{boardBytes, storeLength, nameAt, boardStart, boardAt, bytesOf, noName, sameName, isNamed, firstNamed}
 use Rattle.store.specs.Calls.{saved, dropped}
 use Rattle.store.specs.Theorems.{Words, Unknown, Earliest, Usable, OneEntry, Freed}
 use Rattle.general.proofs.Parts.{over-length, over-in, over-before, over-after}

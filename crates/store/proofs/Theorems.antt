@@ -1,6 +1,6 @@
 -- The theorems of specs/Theorems.antt. Assumes nothing.
 use mathlib.Core.Path.{_≡_, refl, sym, ap, _∙_, subst}
-use mathlib.Core.Bool.{Bool, true, false}
+use mathlib.Core.Bool.{true, false}
 use mathlib.Core.List.{List, [], _∷_}
 use mathlib.Core.Option.{Option, none, some}
 use Prim.Native.Nat.{ℕ, _<_}
@@ -16,10 +16,10 @@ use Rattle.rules.specs.declared.Verdict.the-variants.{Name, Full}
 use Rattle.rules.specs.Answers.{Answer, told}
 use Rattle.boards.specs.Board.{boardFits}
 use Rattle.answers.specs.Answers.{accepted}
-use Rattle.entries.specs.Entries.{entryCount, nameLength, storeLength, nameAt, boardAt, noName, sameName, firstNamed, placeFor}
+use Rattle.entries.specs.Entries.{nameLength, storeLength, nameAt, boardAt, noName, sameName, firstNamed, placeFor}
 use Rattle.store.specs.Calls.{storeFits, nameRefusal, Stored, saved, saveOf, Recalled, recallOf, dropped, dropOf}
-use Rattle.store.specs.Theorems.{Words, Refused, RecallAfterSave, SaveKeepsOthers, DropKeepsOthers, Change, save, drop, changed, afterChanges, changeName, ComeBack, Unknown, Earliest, Usable, EarlierMeant, OneEntry, SavedEntry, Freed, DroppedEntry, NewName, FullStore, ServesAgain, EmptyAfter, EmptyAfterDrop, Second, SecondMeant, GoneAfterDrop}
-use Rattle.entries.proofs.LookUp.{named-within, place-named, place-new, place-within}
+use Rattle.store.specs.Theorems.{Refused, RecallAfterSave, SaveKeepsOthers, DropKeepsOthers, Change, save, drop, changed, afterChanges, changeName, ComeBack, Unknown, Earliest, Usable, EarlierMeant, OneEntry, SavedEntry, Freed, DroppedEntry, NewName, FullStore, ServesAgain, EmptyAfter, EmptyAfterDrop, Second, SecondMeant, GoneAfterDrop}
+use Rattle.entries.proofs.LookUp.{place-named, place-new, place-within}
 use Rattle.store.proofs.Answers.{Fitting, all-fit, fitting, by-name, name-none, save-down, save-full, save-made, recall-down, recall-none, recall-made, drop-down, drop-none, drop-made}
 use Rattle.store.proofs.Changed.{no-name-length, used-name, used-of, first-of, earliest-of, first-unknown, unknown-of, saved-length, saved-name, saved-others, saved-board, dropped-length, dropped-entry}
 

@@ -5,13 +5,12 @@ use mathlib.Core.List.{List, [], _∷_}
 use Prim.Native.Nat.{ℕ, _<_}
 use lib.ListN.{length}
 use Rattle.general.specs.Tables.{All}
-use Rattle.rules.specs.declared.Verdict.{Verdict}
 use Rattle.rules.specs.declared.Verdict.the-variants.{Name, Full}
-use Rattle.rules.specs.Answers.{Answer, told}
+use Rattle.rules.specs.Answers.{told}
 use Rattle.answers.specs.Answers.{accepted}
 use Rattle.places.specs.Board.{boardLength}
 use Rattle.entries.specs.Entries.{entryCount, nameLength, storeLength, nameAt, boardAt, noName}
-use Rattle.store.specs.Calls.{Stored, Recalled, saved, dropped, saveOf, recallOf, dropOf}
+use Rattle.store.specs.Calls.{saved, dropped, saveOf, recallOf, dropOf}
 
 -- numbers of 64 bits, as a board has them
 abbrev pub Words : List ℕ → Type 0
