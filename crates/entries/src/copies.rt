@@ -1,5 +1,5 @@
 // A board copied into its entry of a store, and back. The numbers go by way of an array that nothing else can reach, so that the compiler sees that
-// the two lists cannot meet in it: it then makes one move of all the bytes and keeps no array. A loop from list to list moves a number at a time.
+// the two lists cannot meet in it: it then makes one move of all the bytes and keeps no array. A loop from list to list moves two numbers at a time.
 ghost use mathlib.Core.Path.{_≡_};
 ghost use Prim.Native.Nat.{_<_};
 ghost use lib.ListN.{length};
