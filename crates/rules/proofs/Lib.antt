@@ -15,6 +15,8 @@ pub mod Noting
 pub mod Shortness
 pub mod Possible
 pub mod Tight
+pub mod ElderTurns
+pub mod ElderMonths
 pub mod October
 pub mod Theorems
 pub mod Marked

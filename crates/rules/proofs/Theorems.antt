@@ -1,4 +1,4 @@
--- The theorems of specs/Theorems.antt. Assumes nothing.
+-- The theorems of specs/Theorems.antt, and of specs/Elders.antt. Assumes nothing.
 use mathlib.Core.Path.{_≡_, sym, ap, _∙_, subst}
 use mathlib.Core.List.{List}
 use Rattle.general.specs.Tables.{tab}
@@ -9,6 +9,7 @@ use Rattle.rules.specs.Water.{WaterKept}
 use Rattle.rules.specs.Shortness.{howMany, shortsOf, shortNow}
 use Rattle.rules.specs.Turn.{pathOf}
 use Rattle.rules.specs.River.{availableAt, lowest}
+use Rattle.rules.specs.Elders.{FirstTurns, FirstTurnsOfMonth}
 use Rattle.rules.specs.Theorems.{Splitting, DeepBounds, Paths, TightSpots, Areas, Possible, Fresh, CountsAsCalls, Water, StartKept, ShortMonths, Checkpoints, Unclipped, PendingOn, PendingEnds, PendingBegins, AlwaysPossible, Resumed, OctoberAccepted}
 use Rattle.rules.proofs.Path.{path-ends, path-once, path-rising}
 use Rattle.rules.proofs.Tight.{called-first, low-first}
@@ -19,6 +20,8 @@ use Rattle.rules.proofs.Months.{month-ok}
 use Rattle.rules.proofs.Years.{entries-calls, resumes}
 use Rattle.rules.proofs.Pending.{pending-on, pending-ends, pending-begins}
 use Rattle.rules.proofs.Sums.{begun-ok, calls-ok, calls-start, water-kept}
+use Rattle.rules.proofs.ElderTurns.{first-turns}
+use Rattle.rules.proofs.ElderMonths.{first-of-month}
 use Rattle.rules.proofs.October.{october-facts}
 use Rattle.rules.proofs.Shortness.{calls-short}
 use Rattle.rules.proofs.Possible.{fresh-facts, begun-possible, calls-possible}
@@ -82,6 +85,12 @@ alwaysPossible b acc s p xs =
 
 pub resumed : Resumed
 resumed b t xs = resumes b t xs
+
+pub firstTurns : FirstTurns
+firstTurns = first-turns
+
+pub firstTurnsOfMonth : FirstTurnsOfMonth
+firstTurnsOfMonth = first-of-month
 
 pub octoberAccepted : OctoberAccepted
 octoberAccepted = october-facts

@@ -11,5 +11,6 @@ pub mod Water
 pub mod Shortness
 pub mod Accepted
 pub mod October
+pub mod Elders
 pub mod Theorems
 pub mod Marked

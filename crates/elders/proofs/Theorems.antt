@@ -1,0 +1,53 @@
+-- Younger rights can't touch this month's elder ones: the theorems of specs/Elders.antt. Assumes nothing.
+use mathlib.Core.Path.{_≡_, sym, ap, _∙_}
+use mathlib.Core.List.{List}
+use Prim.Native.Nat.{ℕ, _≤_}
+use native.Mathlib.Omega.{arith}
+use lib.ListN.{length, take}
+use Rattle.rules.specs.Basin.{Basin}
+use Rattle.rules.specs.Elders.{SameRiver}
+use Rattle.rules.specs.Month.{grantAt, reasonNumber}
+use Rattle.rules.specs.Turn.{Grant}
+use Rattle.sections.specs.File.{sectionOf}
+use Rattle.records.specs.Records.{stationsOf, reservoirsOf, patternsOf, bodies, basinOf}
+use Rattle.records.proofs.Decoded.{rights-are}
+use Rattle.filecheck.proofs.Accepted.{accepted-facts}
+use Rattle.month.specs.Month.{runOf}
+use Rattle.elders.specs.Elders.{SameElders, EldersSafe, AcceptedLent}
+use Rattle.elders.proofs.Records.{points-most, first-rights}
+use Rattle.elders.proofs.Calls.{first-grants, all-clear, Told, told}
+
+pub acceptedLent : AcceptedLent
+acceptedLent f runoff board report o c = let k = all-clear f runoff board report o c in record { file-accepted = k .file-ok; board-possible = k .board-ok }
+
+-- ---- the basins of two files with the same elders
+
+module _ (f g : List ℕ) (k : ℕ) (e : SameElders f g k) where
+  river-same : SameRiver (basinOf f) (basinOf g)
+  unfolding basinOf bodies
+  river-same = record { stations = ap stationsOf (e .stations); reservoirs = ap reservoirsOf (e .reservoirs); patterns = ap patternsOf (e .patterns) }
+
+  first-has : k ≤ length ((basinOf f) .rights)
+  unfolding basinOf bodies
+  first-has = rw (rights-are (sectionOf f 3)) (e .first-has)
+
+  second-has : k ≤ length ((basinOf g) .rights)
+  unfolding basinOf bodies
+  second-has = rw (rights-are (sectionOf g 3)) (e .second-has)
+
+pub eldersSafe : EldersSafe
+unfolding basinOf bodies
+eldersSafe f g k e runoff board lent lent′ o p c d i l =
+    let a : Basin = basinOf f in
+    let b : Basin = basinOf g in
+    let rights : take k (a .rights) ≡ take k (b .rights) = first-rights (sectionOf f 3) (sectionOf g 3) k (e .rights) (e .first-has) (e .second-has)
+        (points-most f (accepted-facts f ((acceptedLent f runoff board lent o c) .file-accepted))) in
+    let grant : grantAt ((runOf a runoff board) .turns) i ≡ grantAt ((runOf b runoff board) .turns) i = first-grants a b (river-same f g k e) runoff board k rights (first-has f g k e) (second-has f g k e) i l in
+    let here : Told f runoff board lent o c i = told f runoff board lent o c i (omega (arith, first-has f g k e)) in
+    let there : Told g runoff board lent′ p d i = told g runoff board lent′ p d i (omega (arith, second-has f g k e)) in
+    record {
+      from-river = here .from-river ∙ ap (λ (x : Grant). x .fromRiver) grant ∙ sym (there .from-river);
+      from-storage = here .from-storage ∙ ap (λ (x : Grant). x .fromStorage) grant ∙ sym (there .from-storage);
+      reason = here .reason ∙ ap (λ (x : Grant). reasonNumber (x .reason)) grant ∙ sym (there .reason);
+      station = here .station ∙ ap (λ (x : Grant). x .station) grant ∙ sym (there .station);
+    }

@@ -1,0 +1,2 @@
+pub mod Elders
+pub mod Season
