@@ -1,3 +1,5 @@
 pub mod Records
 pub mod Calls
+pub mod Starts
 pub mod Theorems
+pub mod Season

@@ -12,6 +12,7 @@ use Rattle.sections.specs.File.{widthOf, sectionOf}
 use Rattle.records.specs.Records.{rightCount, basinOf}
 use Rattle.filecheck.specs.Check.{checkOf}
 use Rattle.boards.specs.Board.{possible}
+use Rattle.fresh.specs.Fresh.{freshBoard}
 use Rattle.month.specs.Month.{Outcome, MonthMeets}
 
 -- Two files with the same stations, reservoirs and patterns, byte for byte, and the same first k records of rights. Of the rights after these nothing is
@@ -41,6 +42,11 @@ abbrev pub EldersSafe : Type 0
 EldersSafe = (f g : List ℕ) (k : ℕ) → SameElders f g k → (runoff board lent lent′ : List ℕ) (o p : Outcome)
     → AcceptedCall f runoff board lent o → AcceptedCall g runoff board lent′ p
     → (i : ℕ) → i < k → SameLine (o .report) (p .report) i
+
+-- ---- one board possible for both: there is always one, since fresh gives both files the same
+
+abbrev pub OneFreshBoard : Type 0
+OneFreshBoard = (f g : List ℕ) (k : ℕ) → SameElders f g k → freshBoard (basinOf f) ≡ freshBoard (basinOf g)
 
 -- ---- what an accepted call says of what it was lent: the file is accepted, and the board possible for it
 

@@ -10,13 +10,15 @@ use Rattle.sections.specs.File.{widthOf, offsetOf, countOf, countsOk, packed, l
 use Rattle.records.specs.Records.{stationRecord, stationOf, stationsOf, reservoirRecord, contentAt, areaAt, depthAt, reservoirOf, reservoirsOf, percentAt, patternOf, patternsOf, kindByte, kindNamed, rightRecord, amountAt, returnRow, returnPercent, rightOf, rightsOf, bodies, basinOf}
 use Rattle.filerules.specs.FileRules.{numberRises, wayDown, stationPlain, stationOk, contentsRise, areasOk, depthsOk, surveysOk, reservoirPlain, reservoirOk, patternOk, dateOk, kindKnown, limitOk, headingOk, belowReservoir, atReservoir, sourceOk, pointOk, eachPointOk, pointsOk, diversionOk, undivertedOk, returnsOk, unusedOk, amountsOk, earlier, rightRises, rightOk}
 use Rattle.filecheck.specs.Check.{faultOr, stationsVerdict, reservoirsVerdict, patternsVerdict, rightsVerdict, bodiesVerdict, checkOf}
-use Rattle.filecheck.specs.October.{octoberFile, OctoberChecked}
+use Rattle.filecheck.specs.October.{octoberFile, elderAloneFile, OctoberChecked}
 
 pub october-checked : OctoberChecked
-unfolding octoberFile checkOf bodiesVerdict stationsVerdict reservoirsVerdict patternsVerdict rightsVerdict faultOr firstFault firstAt allTo _and_ between has layoutOk countsOk packed sectionOf offsetOf countOf widthOf le16At le32At threeZeros tab sumOver sumTo carriesOn rowBelow follow path stationsOf stationOf stationRecord reservoirRecord contentAt areaAt depthAt patternOf percentAt kindByte kindNamed rightRecord amountAt returnRow returnPercent numberRises wayDown stationPlain stationOk contentsRise areasOk depthsOk surveysOk reservoirPlain reservoirOk patternOk dateOk kindKnown limitOk headingOk belowReservoir atReservoir sourceOk pointOk eachPointOk pointsOk diversionOk undivertedOk returnsOk unusedOk amountsOk earlier rightRises rightOk basinOf bodies reservoirsOf reservoirOf patternsOf rightsOf rightOf
+unfolding octoberFile elderAloneFile checkOf bodiesVerdict stationsVerdict reservoirsVerdict patternsVerdict rightsVerdict faultOr firstFault firstAt allTo _and_ between has layoutOk countsOk packed sectionOf offsetOf countOf widthOf le16At le32At threeZeros tab sumOver sumTo carriesOn rowBelow follow path stationsOf stationOf stationRecord reservoirRecord contentAt areaAt depthAt patternOf percentAt kindByte kindNamed rightRecord amountAt returnRow returnPercent numberRises wayDown stationPlain stationOk contentsRise areasOk depthsOk surveysOk reservoirPlain reservoirOk patternOk dateOk kindKnown limitOk headingOk belowReservoir atReservoir sourceOk pointOk eachPointOk pointsOk diversionOk undivertedOk returnsOk unusedOk amountsOk earlier rightRises rightOk basinOf bodies reservoirsOf reservoirOf patternsOf rightsOf rightOf
 october-checked = record {
   accepted = refl;
   decoded = refl;
+  alone-accepted = refl;
+  alone-decoded = refl;
   cut-short = refl;
   gap = refl;
   lost-row = refl;

@@ -3,7 +3,7 @@ use mathlib.Core.Path.{_≡_}
 use mathlib.Core.List.{List, [], _∷_, _++_}
 use Prim.Native.Nat.{ℕ, _/_, _%_}
 use lib.ListN.{set, replicate, take}
-use Rattle.rules.specs.October.{october}
+use Rattle.rules.specs.October.{october, elderAlone}
 use Rattle.rules.specs.declared.Verdict.the-variants.{Accepted, Layout, Station, Reservoir, Pattern, Right}
 use Rattle.records.specs.Records.{basinOf}
 use Rattle.filecheck.specs.Check.{checkOf}
@@ -45,10 +45,17 @@ octoberFile =
     ++ rightBytes 14 19500101 (2 ∷ 1 ∷ 0 ∷ 100 ∷ 255 ∷ 0 ∷ []) 0 600 noPairs
     ++ rightBytes 15 99999999 (1 ∷ 0 ∷ 255 ∷ 100 ∷ 255 ∷ 0 ∷ []) 0 50 noPairs
 
+-- up to its first right, with the number of rights in the table of contents
+unfoldable pub elderAloneFile : List ℕ
+elderAloneFile = set (take 212 octoberFile) 28 1
+
 pub record OctoberChecked : Type 0 where
   pub accepted : checkOf octoberFile ≡ Accepted
   -- it describes the basin of the rules' October
   pub decoded : basinOf octoberFile ≡ october
+  -- so does the one with its first right alone
+  pub alone-accepted : checkOf elderAloneFile ≡ Accepted
+  pub alone-decoded : basinOf elderAloneFile ≡ elderAlone
   -- the last byte missing
   pub cut-short : checkOf (take 515 octoberFile) ≡ Layout
   -- reservoirs said to start one byte later

@@ -1,7 +1,7 @@
 -- The worked month of 01, "One October, whole", as a basin and one call. What it leaves open: no evaporation in other months, the same amounts in all.
 use mathlib.Core.List.{List, [], _∷_}
 use Prim.Native.Nat.{ℕ}
-use lib.ListN.{replicate}
+use lib.ListN.{take, replicate}
 use Rattle.rules.specs.Basin.{Station, Reservoir, Kind, direct, project, storage, Right, Basin}
 use Rattle.rules.specs.Tally.{Call}
 
@@ -81,6 +81,10 @@ october = record {
       ∷ plainRight 15 99999999 direct 0 255 50
       ∷ [];
 }
+
+-- the same river with its first right and no other
+abbrev pub elderAlone : Basin
+elderAlone = record { stations = october .stations; reservoirs = october .reservoirs; patterns = october .patterns; rights = take 1 (october .rights) }
 
 abbrev pub octoberCall : Call
 octoberCall = record { runoff = 2000 ∷ 700 ∷ 300 ∷ []; report = 28 }
