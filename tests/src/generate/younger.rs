@@ -38,8 +38,8 @@ fn next_priority(rng: &mut Rng, (date, permit): (u32, u32)) -> Option<(u32, u32)
     if date == UNDATED {
         return None;
     }
-    let later = date + *rng.pick(&[1, 1, 100, 10_000, 100_000, LAST_DATE]);
-    let date = if later > LAST_DATE { UNDATED } else { later };
+    let later = date + *rng.pick(&[1, 1, 100, 10_000]);
+    let date = if later > LAST_DATE || rng.chance(3) { UNDATED } else { later };
     let permits = *rng.pick(&[5, LAST_PERMIT as u64]);
     Some((date, rng.between(1, permits) as u32))
 }

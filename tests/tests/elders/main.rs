@@ -85,9 +85,9 @@ fn assert_met(met: &Met) {
 
 // ---- wrong engines ----
 
-/// Wrong engines in which younger rights touch elder ones: the three that ask after later
-/// rights, and the one that goes back to those already served when all have had their turn.
-/// What else is wrong in the others is wrong in both basins alike.
+/// Wrong engines in which younger rights touch elder ones: the three that count later rights
+/// or look at them, and the one that goes back to those already served when all have had their
+/// turn. What is wrong in any other is wrong alike in both basins.
 const LET_IN: [Slip; 4] = [
     Slip::DemandByNumberOfRights,
     Slip::LaterRightsCallFirst,
@@ -110,12 +110,10 @@ fn wrong_engines_are_seen() {
     let mut seen = Vec::new();
     // Those of the store run no month.
     for &(slip, name, wrong) in ALL.iter().filter(|slip| !slip.0.of_store()) {
-        let found = pairs.iter().position(|pair| {
-            lets_in(
-                &|file, runoff, board, report| month(&Slipped(slip), file, runoff, board, report),
-                pair,
-            )
-        });
+        let month = |file: &[u8], runoff: &[u32], board: &mut [u64], report: &mut [u64]| {
+            month(&Slipped(slip), file, runoff, board, report)
+        };
+        let found = pairs.iter().position(|pair| lets_in(&month, pair));
         if let Some(place) = found {
             println!("{name}, {wrong}: seen in pair {}", place + 1);
             seen.push(slip);
