@@ -11,7 +11,7 @@ mod season;
 
 use compare::{Met, MonthCall};
 use pairs::{Pair, CHANGES, SAME};
-use river_tests::calls::{by_each, Calls};
+use river_tests::calls::{by_each, Calls, ENGINES};
 use river_tests::engine::board::BOARD;
 use river_tests::engine::month::month;
 use river_tests::engine::slip::{Slip, Slipped, ALL};
@@ -21,8 +21,13 @@ const PAIRS: u64 = 7000;
 
 // ---- pairs ----
 
-/// Both files are accepted, and begin on the same board.
+/// The two agree as they should; both files are accepted, and begin on the same board.
 fn assert_sound(calls: &Calls, pair: &Pair) {
+    let [one, other] = pair.basins.each_ref().map(|basin| {
+        let elders = &basin.rights[..pair.elders];
+        (&basin.stations, &basin.reservoirs, &basin.patterns, elders)
+    });
+    assert!(one == other, "{}: no pair", pair.at());
     let fresh = pair.files.each_ref().map(|file| {
         assert_eq!((calls.check)(file), (0, 0), "{}", pair.at());
         let mut board = vec![7; BOARD];
@@ -120,4 +125,19 @@ fn wrong_engines_are_seen() {
         }
     }
     assert_eq!(seen, LET_IN);
+}
+
+/// A difference is told with the seed, the change and the right.
+#[test]
+#[should_panic(
+    expected = "SEED=5, at other rows, with other returns, 5 elder rights, call 1: right 4 "
+)]
+fn a_difference_is_named() {
+    let wrong = Calls {
+        month: |file, runoff, board, report| {
+            month(&Slipped(Slip::LaterRightsCallFirst), file, runoff, board, report)
+        },
+        ..ENGINES[0]
+    };
+    compare_pair(&wrong, &Pair::draw(5), &mut Met::default());
 }

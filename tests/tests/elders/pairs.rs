@@ -35,7 +35,7 @@ pub const CHANGES: &[(&str, Change)] = &[
         let most = any_amount(rng);
         later.iter().map(|right| with_other_amounts(rng, elders, right, most)).collect()
     }),
-    ("at other rows, with other reservoirs and returns", |rng, elders, later| {
+    ("at other rows, with other returns", |rng, elders, later| {
         later.iter().map(|right| at_another_place(rng, elders, right)).collect()
     }),
     (SAME, |_, _, later| later.to_vec()),
@@ -49,7 +49,7 @@ fn any_amount(rng: &mut Rng) -> u32 {
     *rng.pick(&[25, 5000, 1_000_000_000])
 }
 
-/// What the two calls of a month are lent; the reports differ in length and content.
+/// What the two calls of a month are lent; the reports differ in content, and mostly in length.
 pub struct Call {
     pub runoff: Vec<u32>,
     pub board: Vec<u64>,
