@@ -92,6 +92,13 @@ pub fn october() -> Basin {
     }
 }
 
+/// The same with its first right alone.
+pub fn october_elder() -> Basin {
+    let mut basin = october();
+    basin.rights.truncate(1);
+    basin
+}
+
 pub const OCTOBER_RUNOFF: [u32; 3] = [2000, 700, 300];
 
 /// Two tributaries, stations 10 and 20, that join at 30; below it 40. The direct rights

@@ -1,5 +1,5 @@
-//! A seeded generator of valid basins, runoff sheets, runoff books, possible boards and stores
-//! of boards.
+//! A seeded generator of valid basins, younger rights for them, runoff sheets, runoff books,
+//! possible boards and stores of boards.
 
 use crate::engine::board::{due, most_due, BOARD, MARKS, NEXT_MONTH, SHORT, STORAGES, TAKEN};
 use crate::engine::records::*;
@@ -8,10 +8,13 @@ mod bodies;
 mod books;
 mod rng;
 mod stores;
+mod younger;
+pub use bodies::kinds_of;
 use bodies::{extreme_table, losing, stations_of, up_to, with_bodies};
 pub use books::{any_listed, years_of};
 pub use rng::Rng;
 pub use stores::{any_name, any_numbers, any_store, NAMES};
+pub use younger::{at_another_place, with_other_amounts, younger_rights};
 
 /// How many of each there are.
 #[derive(Clone, Copy, Debug)]

@@ -80,6 +80,9 @@ pub fn runs(provo: [Vec<u8>; 2]) -> Vec<Run> {
     let wet_and_dry = [[1500, 100, 50, 0], [200, 0, 30, 5], [0; 4], [40, 700, 0, 0], [0, 0, 9, 1]];
     let two_years: Vec<u32> = wet_and_dry.iter().flatten().copied().cycle().take(4 * 24).collect();
     all.push(run("deep_losses", Some(losing().encode()), Some(months_bytes(&two_years))));
+    let wet_and_dry = months_bytes(&[2000, 700, 300, 0, 0, 300]);
+    all.push(run("elder_with_younger", Some(file()), Some(wet_and_dry.clone())));
+    all.push(run("elder_alone", Some(october_elder().encode()), Some(wet_and_dry)));
     all
 }
 

@@ -5,8 +5,8 @@ use river_tests::engine::records::*;
 use river_tests::engine::store::{board_at, name_at, NO_NAME, STORE_BYTES};
 use river_tests::engine::tally::{path, row_below};
 use river_tests::engine::{board, check, find_year, fresh, stock};
-use river_tests::generate::{any_river, any_store, largest, river_of, sheet, straight, years_of};
-use river_tests::generate::{Rng, Size, NAMES};
+use river_tests::generate::{any_river, any_store, kinds_of, largest, river_of, sheet, straight};
+use river_tests::generate::{years_of, younger_rights, Rng, Size, NAMES};
 
 #[test]
 fn valid_basins_are_accepted() {
@@ -52,6 +52,31 @@ fn possible_boards_have_words_of_all_kinds() {
     }
     assert!(none > 1000 && all > 1000 && ahead > 1000 && none + all < words / 2);
     assert!(set.iter().all(|times| (words / 3..words * 2 / 3).contains(times)), "{words} {set:?}");
+}
+
+/// Rights that follow the elder ones of any list, often up to 256 of them: on the same date, on
+/// a later one, undated.
+#[test]
+fn younger_rights_may_follow() {
+    let (mut full, mut same_date, mut later, mut undated) = (0, 0, 0, 0);
+    for seed in 0..500 {
+        let rng = &mut Rng::new(seed);
+        let mut basin = any_river(rng).basin;
+        basin.rights.truncate(rng.below(basin.rights.len() + 1));
+        let elders = basin.rights.len();
+        let kinds = kinds_of(&basin);
+        let younger = younger_rights(rng, &basin, kinds, MOST_RIGHTS - elders, 5000);
+        basin.rights.extend(younger);
+        assert_eq!(check(&basin.encode()), (0, 0), "seed {seed}");
+        full += (basin.rights.len() == MOST_RIGHTS) as usize;
+        for two in basin.rights[elders.saturating_sub(1)..].windows(2) {
+            same_date += (two[0].date == two[1].date) as usize;
+            later += (two[0].date < two[1].date) as usize;
+            undated += (two[1].date == UNDATED) as usize;
+        }
+    }
+    assert!(full > 400 && full < 500, "{full}");
+    assert!([same_date, later, undated].iter().all(|&times| times > 5000));
 }
 
 #[test]

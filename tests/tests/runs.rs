@@ -60,6 +60,26 @@ fn october_is_as_the_rules_print_it() {
     assert_eq!(expected()[0], text);
 }
 
+/// The season of 02, No. 8, by hand. In October the first right has its 1500, whoever comes
+/// after it. In November it finds 300 of runoff, and beside them the 242 that right 12 returns a
+/// month late; without younger rights the 300 alone.
+#[test]
+fn an_elder_right_with_and_without_younger_ones() {
+    let with_younger = "MONTH PERMIT RIVER STORE WHY AT\n\
+        0 11 1500 0 0 0\n0 12 1201 0 0 0\n0 13 701 0 2 300\n0 14 0 600 0 0\n0 15 0 0 1 100\n\
+        0 end 0 75 1026 403\n\
+        1 11 542 0 2 300\n1 12 0 0 1 300\n1 13 0 0 1 200\n1 14 0 600 0 0\n1 15 0 0 1 100\n\
+        1 end 0 0 426 161\n";
+    // 3000 reach row 2 in October; the lake loses 5 over the 15 acres of its 1000.
+    let alone = "MONTH PERMIT RIVER STORE WHY AT\n\
+        0 11 1500 0 0 0\n0 end 1500 75 925 0\n\
+        1 11 300 0 2 300\n1 end 0 0 925 0\n";
+    let text = expected();
+    let place = |name| all().iter().position(|run| run.name == name).unwrap();
+    assert_eq!(text[place("elder_with_younger")], with_younger);
+    assert_eq!(text[place("elder_alone")], alone);
+}
+
 #[test]
 fn every_reason_and_the_refusals_of_a_run_are_there() {
     let text = expected().concat();

@@ -19,6 +19,7 @@ mod refusals;
 mod returns;
 mod shortages;
 mod turn;
+mod younger;
 pub use refusals::judge_runoff;
 
 /// The month call. Answers number and place, or 0 and the number of rights

@@ -141,6 +141,9 @@ slips! {
     ShortOutOfSeason: "a right out of season is kept as short",
     ShortByNoGrant: "a right is kept as short where it is granted nothing",
     ShortProjectNotKept: "a short project right is not kept as short",
+    DemandByNumberOfRights: "every demand is halved in a basin of more than 8 rights",
+    LaterRightsCallFirst: "a later right that was short in the month before calls an elder one",
+    StorageKeptForLater: "a project right leaves in the reservoir what later ones ask of it",
     // Returns.
     SharesFlooredAlone: "each share is floored alone",
     SharesRoundedUp: "running shares are rounded up, not down",

@@ -184,13 +184,22 @@ fn date(rng: &mut Rng) -> u32 {
 }
 
 fn right(rng: &mut Rng, basin: &Basin, amount_limit: u32) -> Right {
-    let rows = basin.stations.len();
-    let kinds: &[u8] = if basin.reservoirs.is_empty() {
+    let kind = *rng.pick(kinds_of(basin));
+    right_of_kind(rng, basin, kind, amount_limit)
+}
+
+/// The kinds that the rights of a basin can have, as often as they are to be drawn.
+pub fn kinds_of(basin: &Basin) -> &'static [u8] {
+    if basin.reservoirs.is_empty() {
         &[DIRECT, DIRECT, DIRECT, INSTREAM]
     } else {
         &[DIRECT, DIRECT, PROJECT, PROJECT, INSTREAM, STORAGE, STORAGE]
-    };
-    let kind = *rng.pick(kinds);
+    }
+}
+
+/// A right without date and permit.
+pub fn right_of_kind(rng: &mut Rng, basin: &Basin, kind: u8, amount_limit: u32) -> Right {
+    let rows = basin.stations.len();
     let (mut row, mut reservoir, mut limit) = (rng.below(rows) as u8, NONE, 0);
     if kind == PROJECT || kind == STORAGE {
         reservoir = rng.below(basin.reservoirs.len()) as u8;

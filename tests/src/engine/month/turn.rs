@@ -11,7 +11,10 @@ impl<T: Telling> Month<'_, T> {
     /// leaves for the year and its reservoir has room for, and nothing once that has
     /// been filled in the year.
     fn demand(&self, place: usize, right: &Right) -> i64 {
-        let amount = self.scheduled(right);
+        let mut amount = self.scheduled(right);
+        if self.slips(Slip::DemandByNumberOfRights) && self.is_crowded() {
+            amount /= 2;
+        }
         if right.kind != STORAGE {
             return amount;
         }
@@ -47,7 +50,7 @@ impl<T: Telling> Month<'_, T> {
         let row = right.row as usize;
         let path = self.basin.network.path[row];
         let demand = self.demand(place, right);
-        let callers = self.callers(right, path);
+        let callers = self.callers(place, right, path);
         let called = callers != 0;
         let looks_at = self.looks_at(right, path);
         let lowest = self.lowest_available(looks_at);
@@ -64,7 +67,7 @@ impl<T: Telling> Month<'_, T> {
                 self.store(place, right, from_river);
                 0
             }
-            PROJECT => self.release(right, demand - from_river, called),
+            PROJECT => self.release(place, right, demand - from_river, called),
             _ => 0,
         };
         let grant = Grant { from_river, from_storage };
@@ -87,7 +90,7 @@ impl<T: Telling> Month<'_, T> {
     /// Rows of the rights that call this one: those on its path where a right has come
     /// off short in this month. An instream right takes nothing that another could have,
     /// so nobody calls it.
-    fn callers(&self, right: &Right, path: u64) -> u64 {
+    fn callers(&self, place: usize, right: &Right, path: u64) -> u64 {
         if (right.kind == INSTREAM && !self.slips(Slip::InstreamCalled))
             || self.slips(Slip::CalledIgnored)
         {
@@ -102,6 +105,9 @@ impl<T: Telling> Month<'_, T> {
         if self.slips(Slip::CalledByUpstream) {
             let upstream = |row: &usize| self.basin.network.on_path(right.row as usize, *row);
             return rows_of(self.short_rows).filter(upstream).fold(0, |set, row| set | 1 << row);
+        }
+        if self.slips(Slip::LaterRightsCallFirst) {
+            return (self.short_rows | self.younger_callers(place)) & path;
         }
         self.short_rows & path
     }
@@ -195,12 +201,14 @@ impl<T: Telling> Month<'_, T> {
     /// Releases to a project right what the river did not give it, as far as there is
     /// any. The river carries it from the reservoir's row to the row above the right's,
     /// where it is available to nobody (002 makes it available, and begins a row lower).
-    fn release(&mut self, right: &Right, rest: i64, called: bool) -> i64 {
+    fn release(&mut self, place: usize, right: &Right, rest: i64, called: bool) -> i64 {
         let reservoir = right.reservoir as usize;
         let released = if self.slips(Slip::DrawAboveStorage) {
             rest
         } else if called && self.slips(Slip::CalledProjectWithoutStorage) {
             0
+        } else if self.slips(Slip::StorageKeptForLater) {
+            rest.min(self.storage[reservoir] - self.asked_later(place, right)).max(0)
         } else {
             rest.min(self.storage[reservoir])
         };
