@@ -1,6 +1,5 @@
 -- Two accepted month calls on one board: what their reports tell of the first rights. Assumes nothing.
 use mathlib.Core.Path.{_≡_, refl, sym, ap, _∙_}
-use mathlib.Core.Bool.{Bool}
 use mathlib.Core.List.{List, [], _∷_, map}
 use mathlib.Core.Option.{Option, none, some}
 use Prim.Native.Nat.{ℕ, zero, suc, _≤_, _<_}
@@ -14,9 +13,9 @@ use Rattle.places.specs.Report.{fromRiverPlace, fromStoragePlace, reasonPlace, 
 use Rattle.rules.specs.Answers.{Answer, orElse}
 use Rattle.rules.specs.Basin.{Station, Reservoir, Basin, rows}
 use Rattle.rules.specs.Elders.{SameRiver, turnWithoutTaken, CarriedAlike}
-use Rattle.rules.specs.Month.{grantsOf, noGrant, grantAt, MonthRun, month, reasonNumber}
+use Rattle.rules.specs.Month.{grantAt, MonthRun, month, reasonNumber}
 use Rattle.rules.specs.Tally.{overLimit, overAnswer}
-use Rattle.rules.specs.Turn.{Turn, Grant}
+use Rattle.rules.specs.Turn.{Turn}
 use Rattle.rules.proofs.Theorems.{firstTurnsOfMonth}
 use Rattle.records.specs.Records.{basinOf}
 use Rattle.boards.specs.Board.{carriedOf}
@@ -25,8 +24,8 @@ use Rattle.boards.proofs.Report.{river-place, storage-place, reason-place, stat
 use Rattle.answers.specs.Answers.{lentRefusal, settled}
 use Rattle.answers.proofs.Answers.{Clear, lent-clear}
 use Rattle.answers.proofs.Numbered.{Numbered, or-numbered, over-numbered, lent-numbered}
-use Rattle.month.specs.Month.{allFit, monthRefusal, runOf, Outcome, monthSettled, monthOf, MonthMeets}
-use Rattle.elders.specs.Elders.{AcceptedCall, SameLine}
+use Rattle.month.specs.Month.{allFit, monthRefusal, runOf, Outcome, monthSettled, monthOf}
+use Rattle.elders.specs.Elders.{AcceptedCall}
 
 -- ---- the grants of the first turns
 

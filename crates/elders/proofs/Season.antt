@@ -1,15 +1,14 @@
 -- The season computed. By the claim the calls tell the tally's months, so that no board has to be computed. Assumes nothing.
-use mathlib.Core.Path.{_≡_, refl, sym, ap, _∙_, subst}
+use mathlib.Core.Path.{_≡_, refl, sym, _∙_, subst}
 use mathlib.Core.List.{List, [], _∷_}
 use mathlib.Core.Option.{Option, none}
 use Prim.Native.Nat.{ℕ, _<_}
 use native.Mathlib.Omega.{arith}
-use lib.ListN.{length, getD, replicate}
+use lib.ListN.{length}
 use Rattle.general.specs.Sums.{sumOver, sumTo}
 use Rattle.general.specs.Tables.{tab}
 use Rattle.general.specs.Tests.{_and_, has, firstAt, bit}
 use Rattle.general.specs.Routes.{follow}
-use Rattle.places.specs.Board.{boardLength}
 use Rattle.rules.specs.declared.Verdict.the-variants.{Accepted}
 use Rattle.rules.specs.Answers.{Answer, orElse, unless}
 use Rattle.rules.specs.Basin.{Basin}
@@ -66,13 +65,12 @@ record Tallied (b : Basin) (inOctober : ℕ) (octoberLine : List ℕ) (inNovembe
   november-answer : entryAnswer b (afterOctober b) (monthly novemberAsked) ≡ shortRights inNovember
   november-line : lineIn (nextRun b (afterOctober b) novemberAsked) ≡ novemberLine
 
-october-tallied : Tallied october 2 (1500 ∷ 0 ∷ 0 ∷ 0 ∷ []) 4 (542 ∷ 0 ∷ 2 ∷ 300 ∷ [])
+tallied-so : Tallied october 2 (1500 ∷ 0 ∷ 0 ∷ 0 ∷ []) 4 (542 ∷ 0 ∷ 2 ∷ 300 ∷ []) × Tallied elderAlone 0 (1500 ∷ 0 ∷ 0 ∷ 0 ∷ []) 1 (300 ∷ 0 ∷ 2 ∷ 300 ∷ [])
 unfolding sumOver sumTo tab _and_ has firstAt bit follow orElse unless carriesOn rowBelow path untilRow diverted reserved released returned along lowest lesser consumption returning sharesFrom shares partsAt partsOf lagged returnNow returnedAt scheduled demand anyOn called divertible riverPart withLevels afterDiversion riverStage storagePart storageStage returnStage shortage reasonOf firstOn lowRow numberAt controlling turn gathered openingLevels opening turns afterTurns returnedBy returnsAt towards areaFrom areaBy areaAt evaporation evaporations evaporated nextMonth month reasonNumber isShort openingShorts noted shortCount listsFit overLimit overAnswer refusal freshCarried freshStart begun pendingFrom stillDue pending arriving nextRun accept afterJudged afterCall afterCalls answerJudged answerOf countsAs afterEntry entryAnswer
-october-tallied = record { some-right = omega arith; october-fits = refl; november-fits = refl; october-answer = refl; october-line = refl; november-answer = refl; november-line = refl }
-
-alone-tallied : Tallied elderAlone 0 (1500 ∷ 0 ∷ 0 ∷ 0 ∷ []) 1 (300 ∷ 0 ∷ 2 ∷ 300 ∷ [])
-unfolding sumOver sumTo tab _and_ has firstAt bit follow orElse unless carriesOn rowBelow path untilRow diverted reserved released returned along lowest lesser consumption returning sharesFrom shares partsAt partsOf lagged returnNow returnedAt scheduled demand anyOn called divertible riverPart withLevels afterDiversion riverStage storagePart storageStage returnStage shortage reasonOf firstOn lowRow numberAt controlling turn gathered openingLevels opening turns afterTurns returnedBy returnsAt towards areaFrom areaBy areaAt evaporation evaporations evaporated nextMonth month reasonNumber isShort openingShorts noted shortCount listsFit overLimit overAnswer refusal freshCarried freshStart begun pendingFrom stillDue pending arriving nextRun accept afterJudged afterCall afterCalls answerJudged answerOf countsAs afterEntry entryAnswer
-alone-tallied = record { some-right = omega arith; october-fits = refl; november-fits = refl; october-answer = refl; october-line = refl; november-answer = refl; november-line = refl }
+tallied-so = (
+  record { some-right = omega arith; october-fits = refl; november-fits = refl; october-answer = refl; october-line = refl; november-answer = refl; november-line = refl },
+  record { some-right = omega arith; october-fits = refl; november-fits = refl; october-answer = refl; october-line = refl; november-answer = refl; november-line = refl },
+)
 
 -- ---- the calls tell them
 
@@ -122,10 +120,10 @@ module _ (f : List ℕ) (ok : checkOf f ≡ Accepted) {octoberShort novemberShor
 -- ---- both files
 
 with-younger : Tallied (basinOf octoberFile) 2 (1500 ∷ 0 ∷ 0 ∷ 0 ∷ []) 4 (542 ∷ 0 ∷ 2 ∷ 300 ∷ [])
-with-younger = rw (october-checked .decoded) october-tallied
+with-younger = rw (october-checked .decoded) (tallied-so .0)
 
 alone : Tallied (basinOf elderAloneFile) 0 (1500 ∷ 0 ∷ 0 ∷ 0 ∷ []) 1 (300 ∷ 0 ∷ 2 ∷ 300 ∷ [])
-alone = rw (october-checked .alone-decoded) alone-tallied
+alone = rw (october-checked .alone-decoded) (tallied-so .1)
 
 pub season : Season
 season =
