@@ -164,6 +164,7 @@ struct river_answer river_verdict(const uint8_t *file, size_t length);
 struct river_answer river_fresh(const uint8_t *file, size_t length, uint64_t *board, size_t board_length);
 
 /* Runs the next month of a board with one runoff number for each station; writes the board it leaves and its report.
+   What it reports of a right depends on no right after it in the file.
 
        uint32_t runoff[3] = {2000, 700, 300};
        uint64_t report[RIVER_REPORT_LONGEST];
