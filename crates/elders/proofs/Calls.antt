@@ -90,10 +90,17 @@ module _ (f runoff board report : List ℕ) (o : Outcome) (c : AcceptedCall f ru
   not-refused = settled-none (monthRefusal f runoff board report) (or-numbered lent (overAnswer (overLimit runoff)) (lent-numbered f (allFit b runoff board report) board) (over-numbered (overLimit runoff)))
       b runoff board report (ap (λ (x : Outcome). (x .answer) .number) (sym (c .meets)) ∙ c .number)
 
+  not-lent : lent ≡ none
+  unfolding monthRefusal
+  not-lent = first-none lent (overAnswer (overLimit runoff)) not-refused
+
   pub all-clear : Clear f (allFit b runoff board report) board
-  unfolding monthRefusal settled
-  all-clear = let none-lent : lent ≡ none = first-none lent (overAnswer (overLimit runoff)) not-refused in
-      lent-clear f (allFit b runoff board report) board (settled lent) refl (ap (λ (v : Option Answer). (settled v) .number) none-lent)
+  unfolding settled
+  all-clear = lent-clear f (allFit b runoff board report) board (settled lent) refl (ap (λ (v : Option Answer). (settled v) .number) not-lent)
+
+  pub not-over : overAnswer (overLimit runoff) ≡ none
+  unfolding monthRefusal orElse
+  not-over = ap (λ (v : Option Answer). orElse v (overAnswer (overLimit runoff))) (sym not-lent) ∙ not-refused
 
   report-is : o .report ≡ reportOf b (runOf b runoff board) report
   unfolding monthOf monthSettled

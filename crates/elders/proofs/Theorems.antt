@@ -1,21 +1,26 @@
 -- Younger rights can't touch this month's elder ones: the theorems of specs/Elders.antt. Assumes nothing.
 use mathlib.Core.Path.{_≡_, sym, ap, _∙_}
+use mathlib.Core.Bool.{true}
 use mathlib.Core.List.{List}
 use Prim.Native.Nat.{ℕ, _≤_}
 use native.Mathlib.Omega.{arith}
 use lib.ListN.{length, take}
-use Rattle.rules.specs.Basin.{Basin}
+use Rattle.rules.specs.declared.Verdict.the-variants.{Accepted}
+use Rattle.rules.specs.Basin.{Station, Basin}
 use Rattle.rules.specs.Elders.{SameRiver}
 use Rattle.rules.specs.Month.{grantAt, reasonNumber}
 use Rattle.rules.specs.Turn.{Grant}
 use Rattle.sections.specs.File.{sectionOf}
-use Rattle.records.specs.Records.{stationsOf, reservoirsOf, patternsOf, bodies, basinOf}
+use Rattle.records.specs.Records.{rightCount, stationsOf, reservoirsOf, patternsOf, bodies, basinOf}
 use Rattle.records.proofs.Decoded.{rights-are}
+use Rattle.filecheck.specs.Check.{checkOf}
 use Rattle.filecheck.proofs.Accepted.{accepted-facts}
+use Rattle.boards.specs.Board.{possible}
 use Rattle.month.specs.Month.{runOf}
-use Rattle.elders.specs.Elders.{SameElders, EldersSafe, OneFreshBoard, AcceptedLent}
+use Rattle.elders.specs.Elders.{SameElders, AcceptedCall, EldersSafe, NewPermits, OneFreshBoard, GoodLent, AcceptedLent}
 use Rattle.elders.proofs.Records.{points-most, first-rights}
 use Rattle.elders.proofs.Starts.{fresh-same}
+use Rattle.elders.proofs.Permits.{possible-with, accepted-with}
 use Rattle.elders.proofs.Calls.{first-grants, all-clear, Told, told}
 
 pub acceptedLent : AcceptedLent
@@ -23,18 +28,24 @@ acceptedLent f runoff board report o c = let k = all-clear f runoff board report
 
 -- ---- the basins of two files with the same elders
 
+all-there : (f : List ℕ) → length ((basinOf f) .rights) ≡ rightCount (sectionOf f 3)
+unfolding basinOf bodies
+all-there f = rights-are (sectionOf f 3)
+
 module _ (f g : List ℕ) (k : ℕ) (e : SameElders f g k) where
   river-same : SameRiver (basinOf f) (basinOf g)
   unfolding basinOf bodies
   river-same = record { stations = ap stationsOf (e .stations); reservoirs = ap reservoirsOf (e .reservoirs); patterns = ap patternsOf (e .patterns) }
 
   first-has : k ≤ length ((basinOf f) .rights)
-  unfolding basinOf bodies
-  first-has = rw (rights-are (sectionOf f 3)) (e .first-has)
+  first-has = rw (all-there f) (e .first-has)
 
   second-has : k ≤ length ((basinOf g) .rights)
+  second-has = rw (all-there g) (e .second-has)
+
+  elders-same : checkOf f ≡ Accepted → take k ((basinOf f) .rights) ≡ take k ((basinOf g) .rights)
   unfolding basinOf bodies
-  second-has = rw (rights-are (sectionOf g 3)) (e .second-has)
+  elders-same ok = first-rights (sectionOf f 3) (sectionOf g 3) k (e .rights) (e .first-has) (e .second-has) (points-most f (accepted-facts f ok))
 
 pub oneFreshBoard : OneFreshBoard
 oneFreshBoard f g k e = fresh-same (basinOf f) (basinOf g) (river-same f g k e)
@@ -55,3 +66,13 @@ eldersSafe f g k e runoff board lent lent′ o p c d i l =
       reason = here .reason ∙ ap (λ (x : Grant). reasonNumber (x .reason)) grant ∙ sym (there .reason);
       station = here .station ∙ ap (λ (x : Grant). x .station) grant ∙ sym (there .station);
     }
+
+pub newPermits : NewPermits
+newPermits f g e ok runoff board lent lent′ o p c room m =
+    let k : ℕ = rightCount (sectionOf f 3) in
+    let there : GoodLent f board = acceptedLent f runoff board lent o c in
+    let all : length ((basinOf f) .rights) ≡ k = all-there f in
+    let can : possible (basinOf g) board ≡ true = possible-with (basinOf f) (basinOf g) (river-same f g k e) (omega (arith, all, second-has f g k e))
+    (ap (λ (n : ℕ). take n ((basinOf f) .rights)) all ∙ elders-same f g k e (there .file-accepted) ∙ ap (λ (n : ℕ). take n ((basinOf g) .rights)) (sym all)) board (there .board-possible) in
+    let d : AcceptedCall g runoff board lent′ p = accepted-with f g runoff board lent lent′ o p c (ap (λ (st : List Station). length st) (river-same f g k e .stations)) ok can room m in
+    record { accepted = d; lines = eldersSafe f g k e runoff board lent lent′ o p c d }

@@ -5,8 +5,9 @@ use mathlib.Core.Path.{_≡_}
 use mathlib.Core.Bool.{true}
 use mathlib.Core.List.{List}
 use Prim.Native.Nat.{ℕ, _*_, _≤_, _<_}
-use lib.ListN.{getD, take}
+use lib.ListN.{length, getD, take}
 use Rattle.rules.specs.declared.Verdict.the-variants.{Accepted}
+use Rattle.rules.specs.Tally.{reportLength}
 use Rattle.places.specs.Report.{fromRiverPlace, fromStoragePlace, reasonPlace, stationPlace}
 use Rattle.sections.specs.File.{widthOf, sectionOf}
 use Rattle.records.specs.Records.{rightCount, basinOf}
@@ -42,6 +43,19 @@ abbrev pub EldersSafe : Type 0
 EldersSafe = (f g : List ℕ) (k : ℕ) → SameElders f g k → (runoff board lent lent′ : List ℕ) (o p : Outcome)
     → AcceptedCall f runoff board lent o → AcceptedCall g runoff board lent′ p
     → (i : ℕ) → i < k → SameLine (o .report) (p .report) i
+
+-- ---- new permits: all rights of f, and any others after them
+
+-- what is left of a right's fear: the month is accepted all the same, and every right that was there has the line that it had
+pub record Unharmed (f g runoff board lent : List ℕ) (o p : Outcome) : Type 0 where
+  pub accepted : AcceptedCall g runoff board lent p
+  pub lines : (i : ℕ) → i < rightCount (sectionOf f 3) → SameLine (o .report) (p .report) i
+
+-- It is so in every month that is accepted without them, on whatever board, if the file with them is accepted and the list for its report is long enough.
+abbrev pub NewPermits : Type 0
+NewPermits = (f g : List ℕ) → SameElders f g (rightCount (sectionOf f 3)) → checkOf g ≡ Accepted → (runoff board lent lent′ : List ℕ) (o p : Outcome)
+    → AcceptedCall f runoff board lent o → reportLength (basinOf g) ≤ length lent′ → MonthMeets g runoff board lent′ p
+    → Unharmed f g runoff board lent′ o p
 
 -- ---- one board possible for both: there is always one, since fresh gives both files the same
 
