@@ -8,6 +8,12 @@ use river_tests::engine::{report, Answer};
 /// The month call of an engine, right or wrong.
 pub type MonthCall<'a> = &'a dyn Fn(&[u8], &[u32], &mut [u64], &mut [u64]) -> Answer;
 
+/// The two amounts of a right, its reason and its station.
+pub fn line(report: &[u64], right: usize) -> [u64; 4] {
+    [report::from_river, report::from_storage, report::reason, report::station]
+        .map(|place| report[place(right)])
+}
+
 /// What the two calls answer, and what they leave.
 pub struct Told {
     pub answer: Answer,
@@ -22,10 +28,8 @@ impl Told {
         Told { answer, board, report }
     }
 
-    /// The two amounts of a right, its reason and its station.
     pub fn line(&self, right: usize) -> [u64; 4] {
-        [report::from_river, report::from_storage, report::reason, report::station]
-            .map(|place| self.report[place(right)])
+        line(&self.report, right)
     }
 }
 

@@ -7,6 +7,7 @@
 
 mod compare;
 mod pairs;
+mod permits;
 mod season;
 
 use compare::{Met, MonthCall};

@@ -45,7 +45,7 @@ pub const CHANGES: &[(&str, Change)] = &[
 pub const SAME: &str = "the same list again";
 
 /// Few units, a usual volume, or as much as a right can ask.
-fn any_amount(rng: &mut Rng) -> u32 {
+pub fn any_amount(rng: &mut Rng) -> u32 {
     *rng.pick(&[25, 5000, 1_000_000_000])
 }
 
@@ -151,7 +151,7 @@ fn fresh_board(river: &River) -> Vec<u64> {
 }
 
 /// Any possible board, now and then an extreme one.
-fn any_board(rng: &mut Rng, river: &River) -> Vec<u64> {
+pub fn any_board(rng: &mut Rng, river: &River) -> Vec<u64> {
     let mut board = river.possible_board(rng);
     if rng.chance(30) {
         let &(_, edit) = rng.pick(POSSIBLE);
