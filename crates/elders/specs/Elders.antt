@@ -1,6 +1,5 @@
 -- Younger rights can't touch this month's elder ones (02, No. 8): of any two files, and any two month calls that are accepted. It cites only definitions;
--- proofs/Theorems.antt proves it. Of a season it does not hold, and nothing here says so: specs/Season.antt has a return that helps an elder right a month
--- later.
+-- proofs/Theorems.antt proves it. It is said of a month and not of a season: in specs/Season.antt a younger right's return helps an elder one a month later.
 use mathlib.Core.Path.{_≡_}
 use mathlib.Core.Bool.{true}
 use mathlib.Core.List.{List}
@@ -46,7 +45,7 @@ EldersSafe = (f g : List ℕ) (k : ℕ) → SameElders f g k → (runoff board l
 
 -- ---- new permits: all rights of f, and any others after them
 
--- what is left of a right's fear: the month is accepted all the same, and every right that was there has the line that it had
+-- the month is accepted with them as it was without, and every right that was there has the line that it had
 pub record Unharmed (f g runoff board lent : List ℕ) (o p : Outcome) : Type 0 where
   pub accepted : AcceptedCall g runoff board lent p
   pub lines : (i : ℕ) → i < rightCount (sectionOf f 3) → SameLine (o .report) (p .report) i
