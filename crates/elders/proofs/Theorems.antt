@@ -51,12 +51,10 @@ pub oneFreshBoard : OneFreshBoard
 oneFreshBoard f g k e = fresh-same (basinOf f) (basinOf g) (river-same f g k e)
 
 pub eldersSafe : EldersSafe
-unfolding basinOf bodies
 eldersSafe f g k e runoff board lent lent′ o p c d i l =
     let a : Basin = basinOf f in
     let b : Basin = basinOf g in
-    let rights : take k (a .rights) ≡ take k (b .rights) = first-rights (sectionOf f 3) (sectionOf g 3) k (e .rights) (e .first-has) (e .second-has)
-    (points-most f (accepted-facts f ((acceptedLent f runoff board lent o c) .file-accepted))) in
+    let rights : take k (a .rights) ≡ take k (b .rights) = elders-same f g k e (acceptedLent f runoff board lent o c .file-accepted) in
     let grant : grantAt ((runOf a runoff board) .turns) i ≡ grantAt ((runOf b runoff board) .turns) i = first-grants a b (river-same f g k e) runoff board k rights (first-has f g k e) (second-has f g k e) i l in
     let here : Told f runoff board lent o c i = told f runoff board lent o c i (omega (arith, first-has f g k e)) in
     let there : Told g runoff board lent′ p d i = told g runoff board lent′ p d i (omega (arith, second-has f g k e)) in
