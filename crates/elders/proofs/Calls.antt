@@ -23,8 +23,9 @@ use Rattle.boards.specs.Report.{reportOf}
 use Rattle.boards.proofs.Report.{river-place, storage-place, reason-place, station-place}
 use Rattle.answers.specs.Answers.{lentRefusal, settled}
 use Rattle.answers.proofs.Answers.{Clear, lent-clear}
-use Rattle.answers.proofs.Numbered.{Numbered, or-numbered, over-numbered, lent-numbered}
+use Rattle.answers.proofs.Numbered.{Numbered}
 use Rattle.month.specs.Month.{allFit, monthRefusal, runOf, Outcome, monthSettled, monthOf}
+use Rattle.month.proofs.Settling.{month-numbered}
 use Rattle.elders.specs.Elders.{AcceptedCall}
 
 -- ---- the grants of the first turns
@@ -86,9 +87,9 @@ module _ (f runoff board report : List ℕ) (o : Outcome) (c : AcceptedCall f ru
   lent = lentRefusal f (allFit b runoff board report) board
 
   not-refused : monthRefusal f runoff board report ≡ none
-  unfolding monthOf monthRefusal
-  not-refused = settled-none (monthRefusal f runoff board report) (or-numbered lent (overAnswer (overLimit runoff)) (lent-numbered f (allFit b runoff board report) board) (over-numbered (overLimit runoff)))
-      b runoff board report (ap (λ (x : Outcome). (x .answer) .number) (sym (c .meets)) ∙ c .number)
+  unfolding monthOf
+  not-refused = settled-none (monthRefusal f runoff board report) (month-numbered f runoff board report) b runoff board report
+      (ap (λ (x : Outcome). (x .answer) .number) (sym (c .meets)) ∙ c .number)
 
   not-lent : lent ≡ none
   unfolding monthRefusal

@@ -14,18 +14,18 @@ use Rattle.general.proofs.Search.{all-make}
 use Rattle.general.proofs.Tests.{leb-yes, ltb-yes, eqb-same, and-of}
 use Rattle.places.specs.Board.{boardLength, monthAt, storageAt, marksAt, takenAt, dueAt, wordAt}
 use Rattle.rules.specs.Basin.{Station, Reservoir, Right, Basin, noReservoir, noRight, rows, reservoirAt, rightAt}
-use Rattle.rules.specs.Answers.{Answer, orElse}
+use Rattle.rules.specs.Answers.{Answer}
 use Rattle.rules.specs.Elders.{SameRiver}
-use Rattle.rules.specs.Tally.{reportLength, listsFit, overLimit, overAnswer}
+use Rattle.rules.specs.Tally.{reportLength, listsFit}
 use Rattle.rules.specs.Theorems.{mostDue}
 use Rattle.rules.specs.declared.Verdict.the-variants.{Accepted}
 use Rattle.records.specs.Records.{basinOf}
 use Rattle.filecheck.specs.Check.{checkOf}
 use Rattle.boards.specs.Board.{possible}
 use Rattle.boards.proofs.Bounds.{month-most, storage-most, marks-most, taken-most, due-most, word-small, no-taken, no-word}
-use Rattle.answers.proofs.Answers.{Clear, lent-none}
+use Rattle.answers.proofs.Answers.{Clear}
 use Rattle.month.specs.Month.{allFit, monthRefusal, Outcome, monthSettled, monthOf, MonthMeets}
-use Rattle.month.proofs.Settling.{fits-parts}
+use Rattle.month.proofs.Settling.{fits-parts, only-runoff}
 use Rattle.elders.specs.Elders.{AcceptedCall}
 use Rattle.elders.proofs.Calls.{all-clear, not-over}
 
@@ -75,8 +75,7 @@ module _ (f g runoff board lent lent′ : List ℕ) (o p : Outcome) (c : Accepte
       and-of (and-of (ap (λ (n : ℕ). eqb n (rows (basinOf g))) (k .0 ∙ rows-same) ∙ eqb-same (rows (basinOf g))) (leb-yes _ _ room)) (ap (λ (n : ℕ). eqb n boardLength) (k .2) ∙ eqb-same boardLength)
 
   not-refused : monthRefusal g runoff board lent′ ≡ none
-  unfolding monthRefusal orElse
-  not-refused = ap (λ (v : Option Answer). orElse v (overAnswer (overLimit runoff))) (lent-none g (allFit (basinOf g) runoff board lent′) board ok fits-with can) ∙ not-over f runoff board lent o c
+  not-refused = only-runoff g runoff board lent′ (record { file-ok = ok; lists-ok = fits-with; board-ok = can }) ∙ not-over f runoff board lent o c
 
   pub accepted-with : AcceptedCall g runoff board lent′ p
   unfolding monthOf monthSettled

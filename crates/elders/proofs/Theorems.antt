@@ -6,7 +6,7 @@ use Prim.Native.Nat.{ℕ, _≤_}
 use native.Mathlib.Omega.{arith}
 use lib.ListN.{length, take}
 use Rattle.rules.specs.declared.Verdict.the-variants.{Accepted}
-use Rattle.rules.specs.Basin.{Station, Basin}
+use Rattle.rules.specs.Basin.{Station, Basin, rows}
 use Rattle.rules.specs.Elders.{SameRiver}
 use Rattle.rules.specs.Month.{grantAt, reasonNumber}
 use Rattle.rules.specs.Turn.{Grant}
@@ -65,12 +65,16 @@ eldersSafe f g k e runoff board lent lent′ o p c d i l =
       station = here .station ∙ ap (λ (x : Grant). x .station) grant ∙ sym (there .station);
     }
 
+-- ---- with new permits
+
+-- where all rights of f are among the first k, a board that is possible for it is possible for g
+possible-more : (f g : List ℕ) (k : ℕ) → SameElders f g k → length ((basinOf f) .rights) ≡ k → (board : List ℕ) → GoodLent f board → possible (basinOf g) board ≡ true
+possible-more f g k e all board there = possible-with (basinOf f) (basinOf g) (river-same f g k e) (omega (arith, all, second-has f g k e))
+    (rw all (elders-same f g k e (there .file-accepted))) board (there .board-possible)
+
 pub newPermits : NewPermits
 newPermits f g e ok runoff board lent lent′ o p c room m =
-    let k : ℕ = rightCount (sectionOf f 3) in
-    let there : GoodLent f board = acceptedLent f runoff board lent o c in
-    let all : length ((basinOf f) .rights) ≡ k = all-there f in
-    let can : possible (basinOf g) board ≡ true = possible-with (basinOf f) (basinOf g) (river-same f g k e) (omega (arith, all, second-has f g k e))
-    (ap (λ (n : ℕ). take n ((basinOf f) .rights)) all ∙ elders-same f g k e (there .file-accepted) ∙ ap (λ (n : ℕ). take n ((basinOf g) .rights)) (sym all)) board (there .board-possible) in
-    let d : AcceptedCall g runoff board lent′ p = accepted-with f g runoff board lent lent′ o p c (ap (λ (st : List Station). length st) (river-same f g k e .stations)) ok can room m in
-    record { accepted = d; lines = eldersSafe f g k e runoff board lent lent′ o p c d }
+    let can : possible (basinOf g) board ≡ true = possible-more f g _ e (all-there f) board (acceptedLent f runoff board lent o c) in
+    let same-rows : rows (basinOf f) ≡ rows (basinOf g) = ap (λ (st : List Station). length st) (river-same f g _ e .stations) in
+    let d : AcceptedCall g runoff board lent′ p = accepted-with f g runoff board lent lent′ o p c same-rows ok can room m in
+    record { accepted = d; lines = eldersSafe f g _ e runoff board lent lent′ o p c d }

@@ -26,6 +26,7 @@ use Rattle.rules.specs.Tally.{mostRunoff, reportLength, listsFit, overLimit, ov
 use Rattle.rules.proofs.Answers.{or-some}
 use Rattle.answers.specs.Answers.{accepted, lentRefusal, settled}
 use Rattle.answers.proofs.Answers.{settled-some, Clear, lent-none}
+use Rattle.answers.proofs.Numbered.{Numbered, or-numbered, over-numbered, lent-numbered}
 use Rattle.month.specs.Month.{allFit, monthRefusal, Outcome, monthSettled, monthOf, MonthMeets}
 use Rattle.month.specs.Run.{CanRunSheet, SheetRan}
 
@@ -99,6 +100,11 @@ module _ (f runoff board report : List ℕ) where
   abbrev lent : Option Answer
   lent = lentRefusal f fits board
 
+  -- a refusal has a number
+  pub month-numbered : Numbered (monthRefusal f runoff board report)
+  unfolding monthRefusal
+  month-numbered = or-numbered lent (overAnswer (overLimit runoff)) (lent-numbered f fits board) (over-numbered (overLimit runoff))
+
   refused-first : (a : Answer) → a ≡ settled lent → (a .number ≡ 0 → ⊥) → monthRefusal f runoff board report ≡ some a
   unfolding monthRefusal
   refused-first a e n = or-some lent (overAnswer (overLimit runoff)) a (settled-some lent a e n)
@@ -109,9 +115,9 @@ module _ (f runoff board report : List ℕ) where
 
   -- only the runoff is left to look at
   module _ (k : Clear f fits board) where
-    rest : monthRefusal f runoff board report ≡ overAnswer (overLimit runoff)
+    pub only-runoff : monthRefusal f runoff board report ≡ overAnswer (overLimit runoff)
     unfolding monthRefusal orElse
-    rest = rw (lent-none f fits board (k .file-ok) (k .lists-ok) (k .board-ok))
+    only-runoff = rw (lent-none f fits board (k .file-ok) (k .lists-ok) (k .board-ok))
 
     can-go : CanRunSheet (sectionOf f 0) (sectionOf f 1) (sectionOf f 2) (sectionOf f 3) runoff board report
     unfolding basinOf bodies
@@ -119,7 +125,7 @@ module _ (f runoff board report : List ℕ) where
 
     went : (o : Outcome) → SheetRan (basinOf f) runoff board report o → MonthMeets f runoff board report o
     unfolding monthOf
-    went o w = w ∙ ap (λ (v : Option Answer). monthSettled v (basinOf f) runoff board report) (sym rest)
+    went o w = w ∙ ap (λ (v : Option Answer). monthSettled v (basinOf f) runoff board report) (sym only-runoff)
 
     -- at the parts of the file as the code has them
     module _ {st rs ps ri : List ℕ} (e₀ : st ≡ sectionOf f 0) (e₁ : rs ≡ sectionOf f 1) (e₂ : ps ≡ sectionOf f 2) (e₃ : ri ≡ sectionOf f 3) where

@@ -4,27 +4,24 @@ use mathlib.Core.Option.{Option}
 use Prim.Native.Nat.{ℕ}
 use lib.ListN.{take, drop}
 use Rattle.rules.specs.Answers.{Answer, orElse}
-use Rattle.rules.specs.Tally.{reportLength, overLimit, overAnswer}
+use Rattle.rules.specs.Tally.{reportLength}
 use Rattle.records.specs.Records.{basinOf}
 use Rattle.answers.specs.Answers.{lentRefusal}
-use Rattle.answers.proofs.Numbered.{Numbered, or-numbered, over-numbered, lent-numbered}
-use Rattle.month.specs.Month.{allFit, monthRefusal, monthOf}
+use Rattle.answers.proofs.Numbered.{Numbered, or-numbered, lent-numbered}
+use Rattle.month.specs.Month.{monthRefusal, monthOf}
+use Rattle.month.proofs.Settling.{month-numbered}
 use Rattle.book.specs.Book.{lookupRefusal}
 use Rattle.book.proofs.LookUp.{lookup-numbered}
 use Rattle.years.specs.Years.{callsMade, yearMade, runFits, runRefusal, sheetsLeft}
 
 module _ (f : List ℕ) where
-  month-numbered : (r bd rp : List ℕ) → Numbered (monthRefusal f r bd rp)
-  unfolding monthRefusal
-  month-numbered r bd rp = or-numbered (lentRefusal f (allFit (basinOf f) r bd rp) bd) (overAnswer (overLimit r)) (lent-numbered f (allFit (basinOf f) r bd rp) bd) (over-numbered (overLimit r))
-
   calls-numbered : (rs : List (List ℕ)) (bd old : List ℕ) → Numbered ((callsMade f rs bd old) .refused)
   unfolding callsMade
   calls-numbered [] bd old = tt
   calls-numbered (r ∷ rs) bd old =
       let rp : List ℕ = take (reportLength (basinOf f)) old in
       let bd′ : List ℕ = (monthOf f r bd rp) .board in
-      or-numbered (monthRefusal f r bd rp) ((callsMade f rs bd′ (drop (reportLength (basinOf f)) old)) .refused) (month-numbered r bd rp) (calls-numbered rs bd′ (drop (reportLength (basinOf f)) old))
+      or-numbered (monthRefusal f r bd rp) ((callsMade f rs bd′ (drop (reportLength (basinOf f)) old)) .refused) (month-numbered f r bd rp) (calls-numbered rs bd′ (drop (reportLength (basinOf f)) old))
 
   pub run-numbered : (book : List ℕ) (year : ℕ) (bd old : List ℕ) → Numbered (runRefusal f book year bd old)
   unfolding runRefusal
