@@ -23,7 +23,6 @@ use Rattle.records.specs.Records.{basinOf}
 use Rattle.filecheck.specs.Check.{checkOf}
 use Rattle.boards.specs.Board.{possible}
 use Rattle.boards.proofs.Bounds.{month-most, storage-most, marks-most, taken-most, due-most, word-small, no-taken, no-word}
-use Rattle.answers.proofs.Answers.{Clear}
 use Rattle.month.specs.Month.{allFit, monthRefusal, Outcome, monthSettled, monthOf, MonthMeets}
 use Rattle.month.proofs.Settling.{fits-parts, only-runoff}
 use Rattle.elders.specs.Elders.{AcceptedCall}
