@@ -1,5 +1,7 @@
 // Widths of numbers, small tests on them, and tests joined without a branch. Each widening has a function of its own, so that a caller learns
 // the bound with the number.
+#![tactic(auto)]
+
 ghost use Rattle.std.specs.Prelude.{◌≡◌, ◌||◌, ◌≤◌, ◌<◌, ◌^◌, min};
 ghost use Rattle.general.specs.Sums.{only};
 ghost use Rattle.general.specs.Tests.{◌and◌, between, bit, with_bit};

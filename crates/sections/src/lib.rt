@@ -1,4 +1,6 @@
 // The table of contents, and the parts of the file that it names.
+#![tactic(auto)]
+
 ghost use Rattle.std.specs.Prelude.{◌≡◌, ◌+◌, ◌≤◌, ◌<◌, length};
 ghost use Rattle.sections.specs.File.{width_of, offset_of, count_of, end_of, counts_ok, packed, layout_ok, section_of};
 

@@ -1,4 +1,6 @@
 // Sheets of runoff in bytes.
+#![tactic(auto)]
+
 ghost use Rattle.std.specs.Prelude.{◌≡◌, ◌≤◌, length};
 ghost use Rattle.sheets.specs.Sheets.{sheet_size, sheet_of};
 

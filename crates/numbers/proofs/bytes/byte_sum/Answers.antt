@@ -1,0 +1,29 @@
+use mathlib.Core.Path.{◌≡◌, ap, ◌∙◌}
+use mathlib.Core.List.{List}
+use Prim.Native.Nat.{ℕ, ◌+◌, ◌-◌, ◌*◌, ◌≤◌}
+use native.Mathlib.Omega.{arith}
+use borrow.Author.Rules.{rules}
+use Rattle.general.specs.Sums.{sum_to}
+use Rattle.general.proofs.Loops.{total-none, total-more, step-within}
+use Rattle.numbers.specs.Bytes.{byte_at, byte_sum}
+use Rattle.numbers.proofs.bytes.byte_sum.Invariants.{byte}
+use Rattle.numbers.proofs.bytes.byte_sum.Goals as goal
+
+pub loop-k-init : goal.loop-k-init
+loop-k-init c = (search rules, search rules, total-none _)
+
+pub overflow_mul-step : goal.overflow_mul-step
+overflow_mul-step c = let a = c.args in omega (arith, step-within a.step a.n c.loop-k.k (omega arith))
+
+pub overflow_add-at : goal.overflow_add-at
+overflow_add-at c = let a = c.args in omega (arith, step-within a.step a.n c.loop-k.k (omega arith))
+
+pub bounds-s-at : goal.bounds-s-at
+bounds-s-at c = let a = c.args in omega (arith, step-within a.step a.n c.loop-k.k (omega arith))
+
+pub loop-k-preserved : goal.loop-k-preserved
+loop-k-preserved c = let a = c.args in (omega arith, omega (arith, c.byte32-total.ensures), ap (λ (x : ℕ). c.loop-k.total + x) c.byte32-total.ensures.0 ∙ total-more (byte a.s.now a.at a.step) _ _ c.loop-k.invariant.2)
+
+pub returns : goal.returns
+unfolding byte_sum
+returns c = let a = c.args in c.loop-k.invariant.2 ∙ ap (λ (k : ℕ). sum_to k (byte a.s.now a.at a.step)) (omega arith)

@@ -1,0 +1,37 @@
+-- `numbers::put_bit` meets its contract. Assumes nothing.
+use mathlib.Core.Path.{◌≡◌, ap, ◌∙◌}
+use mathlib.Core.Bool.{Bool, true, false}
+use Prim.Native.Nat.{ℕ, ◌+◌, ◌-◌, ◌^◌}
+use native.Mathlib.Omega.{arith}
+use borrow.Author.Rules.{rules}
+use lib.Bits.{bit_and}
+use Rattle.general.specs.Sums.{only}
+use Rattle.general.specs.Tests.{bit, with_bit}
+use Rattle.general.proofs.Bits.{without-le, put-fits, and-bit}
+use Rattle.numbers.proofs.put_bit.Goals as goal
+
+-- what the word has of the bit
+has-it : (w i one : ℕ) → one ≡ 2 ^ i → bit_and w one ≡ only (bit w i) (2 ^ i)
+has-it w i one e = ap (bit_and w) e ∙ and-bit w i
+
+set_is : (w i one : ℕ) (on : Bool) → one ≡ 2 ^ i → on ≡ true → w - bit_and w one + one ≡ with_bit w i on
+unfolding with_bit
+set_is w i one on e t = rw t (omega (arith, has-it w i one e, e))
+
+clear-is : (w i one : ℕ) (on : Bool) → one ≡ 2 ^ i → on ≡ false → w - bit_and w one ≡ with_bit w i on
+unfolding with_bit
+clear-is w i one on e t = rw t (omega (arith, has-it w i one e))
+
+pub overflow_sub-rest : goal.overflow_sub-rest
+overflow_sub-rest c = omega (arith, has-it c.args.word c.args.i c.power-one.result c.power-one.ensures, without-le c.args.word c.args.i)
+
+pub overflow_add-result : goal.overflow_add-result
+overflow_add-result c =
+    let s = c in
+    omega (arith, set_is s.args.word s.args.i c.power-one.result true c.power-one.ensures (λ _. true), put-fits s.args.word s.args.i true 32 s.requires.0 s.requires.1)
+
+pub returns-then-on : goal.returns-then-on
+returns-then-on c = let s = c in set_is s.args.word s.args.i c.power-one.result s.args.on c.power-one.ensures c.if-on.true
+
+pub returns : goal.returns
+returns c = let s = c in clear-is s.args.word s.args.i c.power-one.result s.args.on c.power-one.ensures c.if-on.false

@@ -1,0 +1,34 @@
+use mathlib.Core.Path.{◌≡◌, refl, sym, ap, ◌∙◌}
+use Prim.Native.Nat.{ℕ, ◌+◌, ◌-◌, ◌≤◌}
+use native.Mathlib.Omega.{arith}
+use borrow.Author.Rules.{rules}
+use Rattle.rules.specs.Path.{row_below}
+use Rattle.records.specs.Records.{rows_of, stations_of}
+use Rattle.records.specs.Network.{below_of}
+use Rattle.records.proofs.Rows.{below_from, below-start, below-same, below_less, below_on, below_none}
+use Rattle.records.proofs.network.row_below.Goals as goal
+
+pub loop-later-init : goal.loop-later-init
+loop-later-init c = (refl, omega arith, below-start _ _ _ (omega arith) c.order_at-order.ensures.0)
+
+pub returns-then-x-order : goal.returns-then-x-order
+returns-then-x-order c =
+    let d = c in
+    sym (below-same c.args.stations.now d.order_at-order.result d.loop-later.later (omega arith) (sym c.order_at-x.ensures.0 ∙ c.if-x-order.true)) ∙ d.loop-later.invariant.2
+
+pub returns-then-x-order-2 : goal.returns-then-x-order-2
+returns-then-x-order-2 c =
+    let d = c in
+    let x = c.order_at-x.ensures.0 in
+    sym (below_less c.args.stations.now d.order_at-order.result d.loop-later.later (omega arith) (λ e. c.if-x-order.false (x ∙ e)) (ap (λ (k : ℕ). k + 1) (sym x) ∙ c.if-x-order-2.true)) ∙ d.loop-later.invariant.2
+
+pub loop-later-preserved : goal.loop-later-preserved
+loop-later-preserved c =
+    let d = c in
+    let x = c.order_at-x.ensures.0 in
+    (omega arith, omega arith, sym (below_on c.args.stations.now d.order_at-order.result d.loop-later.later (omega arith) (λ e. c.if-x-order.false (x ∙ e)) (λ e. c.if-x-order-2.false (ap (λ (k : ℕ). k + 1) x ∙ e))) ∙ d.loop-later.invariant.2)
+
+pub returns : goal.returns
+returns c =
+    let d = c in
+    sym (below_none c.args.stations.now d.order_at-order.result d.loop-later.later (omega arith)) ∙ d.loop-later.invariant.2

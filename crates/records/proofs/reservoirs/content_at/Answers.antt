@@ -1,0 +1,8 @@
+-- `records::reservoirs::content_at` meets its contract. Assumes nothing.
+use borrow.Author.Rules.{rules}
+use Rattle.records.specs.Records.{content_at}
+use Rattle.records.proofs.reservoirs.content_at.Goals as goal
+
+pub returns : goal.returns
+unfolding content_at
+returns c = c.le32.ensures

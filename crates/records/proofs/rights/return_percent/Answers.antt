@@ -1,0 +1,9 @@
+-- `records::rights::return_percent` meets its contract. Assumes nothing.
+use mathlib.Core.Path.{refl}
+use borrow.Author.Rules.{rules}
+use Rattle.records.specs.Records.{return_percent}
+use Rattle.records.proofs.rights.return_percent.Goals as goal
+
+pub returns : goal.returns
+unfolding return_percent
+returns c = refl
