@@ -7,7 +7,7 @@ use filecheck::check::check;
 use rules::Verdict;
 
 #[repr(C)]
-#[derive(Drop)]
+#[derive(Clone, Copy)]
 pub struct Answer {
     pub number: u64,
     pub place: u64,

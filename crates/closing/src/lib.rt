@@ -1,4 +1,6 @@
 // Steps 4 and 5 of a month: who was short, the rows as the last right left them, the evaporation, what went deep, the next month.
+#![tactic(auto)]
+
 ghost use Rattle.std.specs.Prelude.{◌≡◌, ◌<◌};
 ghost use Rattle.rules.specs.Month.{next_month};
 ghost use Rattle.closing.specs.Closing.{CanTell, RowsTold, CanEnd, Ended};

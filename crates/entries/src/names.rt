@@ -10,7 +10,7 @@ pub const ENTRIES: usize = 4;
 pub const NAME_LENGTH: usize = 8;
 
 // The entry that a name looked up leads to, where there is one.
-#[derive(Drop)]
+#[derive(Clone, Copy)]
 pub enum Found {
     Entry(usize),
     Nothing,

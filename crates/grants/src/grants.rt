@@ -10,7 +10,7 @@ use records::rights::Kind;
 use river::{Seen, look};
 
 // Why a right is short. The called and the river-low case carry the number of the controlling station; a project right's is that of its reservoir.
-#[derive(Drop)]
+#[derive(Clone, Copy)]
 pub enum Reason {
     Met,
     Called(u32),
@@ -19,7 +19,7 @@ pub enum Reason {
 }
 
 // What a right is granted and why no more, and what of it goes deep.
-#[derive(Drop)]
+#[derive(Clone, Copy)]
 pub struct Grant {
     pub from_river: u64,
     pub from_storage: u64,
@@ -28,7 +28,7 @@ pub struct Grant {
 }
 
 // What the river gives of a demand, and the reason where that is short.
-#[derive(Drop)]
+#[derive(Clone, Copy)]
 pub struct RiverPart {
     pub part: u64,
     pub reason: Reason,

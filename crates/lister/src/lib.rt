@@ -4,7 +4,7 @@ pub mod opening;
 pub mod parts;
 
 // How far a listing has come: the months listed, where its text ends in the lent list, and whether it goes on.
-#[derive(Drop)]
+#[derive(Clone, Copy)]
 pub struct Progress {
     pub months: u64,
     pub at: usize,
@@ -12,7 +12,7 @@ pub struct Progress {
 }
 
 // The same after a part of a block, and how many of the block's bytes are listed.
-#[derive(Drop)]
+#[derive(Clone, Copy)]
 pub struct Listed {
     pub progress: Progress,
     pub used: usize,

@@ -9,7 +9,7 @@ ghost use Rattle.records.specs.Table.{below_code, table_of, step_of, path_by, On
 use numbers::index;
 
 // The next station downstream, where there is one.
-#[derive(Drop)]
+#[derive(Clone, Copy)]
 pub enum Below {
     Row(usize),
     Nothing,

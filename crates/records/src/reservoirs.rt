@@ -5,7 +5,7 @@ ghost use Rattle.records.specs.Records.{reservoir_count, reservoir_record, conte
 use numbers::bytes::{le16, le32};
 
 // The first 12 bytes of a reservoir's record. Its area-capacity table and its depths are read where they stand.
-#[derive(Drop)]
+#[derive(Clone, Copy)]
 pub struct ReservoirRecord {
     pub row: u8,
     pub capacity: u32,

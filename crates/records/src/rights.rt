@@ -5,7 +5,7 @@ ghost use Rattle.records.specs.Records.{right_count, kind_byte, kind_named, righ
 use numbers::bytes::{le16, le32};
 
 // What a right is: direct flow; project, with a reservoir behind it; instream flow; storage.
-#[derive(Drop)]
+#[derive(Clone, Copy)]
 pub enum Kind {
     Direct,
     Project,
@@ -14,7 +14,7 @@ pub enum Kind {
 }
 
 // The first 20 bytes of a right's record. Its amounts and return points are read where they stand, when they are asked for.
-#[derive(Drop)]
+#[derive(Clone, Copy)]
 pub struct RightRecord {
     pub permit: u32,
     pub date: u32,

@@ -5,7 +5,7 @@ ghost use Rattle.records.specs.Records.{rows_of, station_record};
 use numbers::bytes::le32;
 
 // A station's record but for its three zero bytes.
-#[derive(Drop)]
+#[derive(Clone, Copy)]
 pub struct StationRecord {
     pub number: u32,
     pub order: u8,

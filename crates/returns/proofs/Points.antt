@@ -130,7 +130,7 @@ module _ (t pattern ri : List ℕ) (i rest : ℕ) (f a bd : List ℕ) where
     module _ (q : Part) (x : SplitPart) (f₂ a₂ bd₂ : List ℕ) (part : q ≡ part_in ri i rest k) (most : sum pattern ≤ 100) (row_in : q.row < 64) (small : q.amount ≤ most_amount)
         (split : SplitUp pattern q.amount (dues_of q.row) bd₁ bd₂ x) (back : Walked (returned x.at_once) (path_by t q.row) f₁ a₁ f₂ a₂) where
       once-le : x.at_once ≤ most_amount
-      once-le = omega (arith, split.at-once, share-le q.amount pattern 0 most, small)
+      once-le = omega (arith, split.at_once, share-le q.amount pattern 0 most, small)
 
       parts_are : parts_in ri i rest k ++ (q ∷ []) ≡ parts_in ri i rest (k + 1)
       parts_are = ap (λ (y : Part). parts_in ri i rest k ++ (y ∷ [])) part ∙ sym (parts_more ri i rest k)
@@ -138,7 +138,7 @@ module _ (t pattern ri : List ℕ) (i rest : ℕ) (f a bd : List ℕ) where
       levels-more : (h : ℕ) → levels_of h f₂ a₂ ≡ return_by t pattern (parts_in ri i rest (k + 1)) (levels_of h f a)
       levels-more h =
           back.levels h
-          ∙ ap (λ (y : ℕ). along (returned y) (path_by t q.row) (levels_of h f₁ a₁)) (split.at-once ∙ lagged-is pattern 0 q)
+          ∙ ap (λ (y : ℕ). along (returned y) (path_by t q.row) (levels_of h f₁ a₁)) (split.at_once ∙ lagged-is pattern 0 q)
           ∙ ap (λ (l : List Level). along (returned (lagged pattern 0 q)) (path_by t q.row) l) (w.levels h)
           ∙ sym (return-more t pattern (parts_in ri i rest k) q (levels_of h f a))
           ∙ ap (λ (qs : List Part). return_by t pattern qs (levels_of h f a)) parts_are

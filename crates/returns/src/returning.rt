@@ -28,7 +28,7 @@ fn give_share(
 }
 
 // What of a diversion returns: whose, over how many of its return points, by which pattern, and how much.
-#[derive(Drop)]
+#[derive(Clone, Copy)]
 pub struct Return {
     pub right: usize,
     pub points: usize,

@@ -8,7 +8,7 @@ use numbers::wide8;
 use places::board::dues_of;
 
 // What of an amount is in the river at once, and what goes deep.
-#[derive(Drop)]
+#[derive(Clone, Copy)]
 pub struct SplitPart {
     pub at_once: u64,
     pub deep: u64,

@@ -1,5 +1,7 @@
 // The river in a month: flow and available flow at each row, and walks along a path. A walk calls itself on the row below. All that a walk
 // is given fits in registers, tables and levels being arrays of 64 places by reference, so that its call costs no more than a turn of a loop.
+#![tactic(auto)]
+
 ghost use Rattle.std.specs.Prelude.{◌≡◌, cond, ltb, ◌<◌, get_or};
 ghost use Rattle.rules.specs.Path.{until_row};
 ghost use Rattle.rules.specs.River.{diverted, released, returned};
@@ -9,7 +11,7 @@ ghost use Rattle.river.specs.Arrays.{seen_as, seen_on, CanDivert, CanReturn, Can
 use records::network::{Below, next_row};
 
 // What a look down a path sees: the row of a right that is short already, or the row with the lowest available flow.
-#[derive(Drop)]
+#[derive(Clone, Copy)]
 pub enum Seen {
     Called(usize),
     Low(usize),

@@ -4,7 +4,7 @@
 // What a call says of all that it was lent: accepted, or the cause of a refusal with the first at fault. A file is turned down by its layout
 // or by one of its records; a call beside by the lengths of its lists, by an impossible board, or by runoff over its limit at a row; a runoff
 // book by its layout, or by the year that it does not list; a store by the name of a board, or for want of an empty entry.
-#[derive(Drop)]
+#[derive(Clone, Copy)]
 pub enum Verdict {
     Accepted,
     Layout,

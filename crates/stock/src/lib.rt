@@ -14,7 +14,7 @@ pub mod months;
 
 // An answer with the sums of a board, which are 0 where the board is refused.
 #[repr(C)]
-#[derive(Drop)]
+#[derive(Clone, Copy)]
 pub struct Sums {
     pub number: u64,
     pub place: u64,

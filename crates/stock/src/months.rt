@@ -8,7 +8,7 @@ use sections::{RIGHTS, section};
 
 // An answer with a number of months, which is 0 where the board is refused.
 #[repr(C)]
-#[derive(Drop)]
+#[derive(Clone, Copy)]
 pub struct Months {
     pub number: u64,
     pub place: u64,

@@ -11,14 +11,14 @@ use records::rights::{Kind, RightRecord, right_at};
 use returns::returning::{Return, give_returns};
 
 // Whose turn it is, by the right's place in the list, and in which month of the year.
-#[derive(Drop)]
+#[derive(Clone, Copy)]
 pub struct Turn {
     pub right: usize,
     pub month: usize,
 }
 
 // What a right asked for, what of it the river and storage give, and the reason where that is short.
-#[derive(Drop)]
+#[derive(Clone, Copy)]
 pub struct Share {
     pub demand: u64,
     pub from_river: u64,

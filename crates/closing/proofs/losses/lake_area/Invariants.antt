@@ -1,0 +1,13 @@
+-- `closing::losses::lake_area` meets its contract. Assumes nothing.
+use mathlib.Core.Path.{sym, subst, ◌∙◌}
+use native.Mathlib.Omega.{arith}
+use Prim.Native.Nat.{ℕ, ◌-◌, ◌≤◌}
+use borrow.Author.Rules.{rules}
+use Rattle.closing.proofs.Surveyed.{Reached, reached-none, reached-first, ends-between, reached-next, reached-last}
+use Rattle.closing.proofs.losses.lake_area.Given as goal
+
+abbrev pub invariant-loop-k : goal.invariant-loop-k
+invariant-loop-k l = (l.k ≤ 3) × Reached l.reservoirs l.v l.storage l.k l.low
+
+abbrev pub decreases-loop-k : goal.decreases-loop-k
+decreases-loop-k l = 3 - l.k

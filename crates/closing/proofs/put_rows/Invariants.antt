@@ -1,0 +1,14 @@
+use mathlib.Core.Path.{subst}
+use Prim.Native.Nat.{ℕ, ◌-◌, ◌≤◌}
+use native.Mathlib.Omega.{arith}
+use borrow.Author.Rules.{rules}
+use lib.ListN.{get_or, length-set}
+use Rattle.closing.specs.Closing.{RowsTold}
+use Rattle.closing.proofs.Rows.{told_none, told_at}
+use Rattle.closing.proofs.put_rows.Given as goal
+
+abbrev pub invariant-loop-w : goal.invariant-loop-w
+invariant-loop-w l = (l.w ≤ l.rows) × RowsTold l.n l.w l.flow l.available l.initial.report l.report
+
+abbrev pub decreases-loop-w : goal.decreases-loop-w
+decreases-loop-w l = l.rows - l.w

@@ -1,0 +1,140 @@
+use Prim.Native.Nat.{ℕ, ◌+◌, ◌-◌, ◌*◌, ◌/◌, ◌≤◌, ◌<◌}
+use mathlib.Core.Path.{◌≡◌, ap, ◌∙◌, subst}
+use mathlib.Core.List.{List}
+use native.Mathlib.Omega.{arith}
+use borrow.Author.Rules.{rules}
+use Rattle.rules.specs.Returns.{Part}
+use Rattle.general.proofs.Loops.{total-none, total-more}
+use Rattle.records.specs.Records.{return_row, return_percent}
+use Rattle.returns.specs.Dues.{Sums}
+use Rattle.returns.specs.Returning.{points_up_to, part_in, Gave}
+use Rattle.returns.proofs.Shares.{split-le}
+use Rattle.returns.proofs.Points.{percents-in, next_small, amount-is, part-is, can-return, gave-none, gave-more, river-after}
+use Rattle.returns.proofs.returning.give_points.Goals as goal
+
+pub offset_bounds-patterns-which : goal.offset_bounds-patterns-which
+offset_bounds-patterns-which c = omega (arith, c.requires.0.points-ok.known c.requires.1)
+
+pub bounds-patterns-which : goal.bounds-patterns-which
+bounds-patterns-which c = omega (arith, c.requires.0.points-ok.known c.requires.1)
+
+pub loop-k-init : goal.loop-k-init
+loop-k-init c =
+    let b = c in
+    (omega arith, total-none (return_percent b.args.rights.now b.args.back.right), omega arith, λ pattern s. gave-none _ _ _ _ _ _ _ _ b.requires.0.river.within)
+
+pub return_percent-requires : goal.return_percent-requires
+return_percent-requires c = (c.requires.0.points-ok.right_in, omega (arith, c.requires.0.points-ok.few))
+
+pub overflow_add-c : goal.overflow_add-c
+overflow_add-c c =
+    let w = c in
+    let l = c.loop-k in
+    omega (arith, percents-in c.requires.0 l.k l.c w.wide8-p.result w.loop-k-test.true l.invariant.1 (w.wide8-p.ensures.0 ∙ w.return_percent.ensures))
+
+pub percent_of-next-requires : goal.percent_of-next-requires
+percent_of-next-requires c =
+    let w = c in
+    let l = c.loop-k in
+    (c.requires.0.small, percents-in c.requires.0 l.k l.c w.wide8-p.result w.loop-k-test.true l.invariant.1 (w.wide8-p.ensures.0 ∙ w.return_percent.ensures))
+
+pub return_row-requires : goal.return_row-requires
+return_row-requires c = (c.requires.0.points-ok.right_in, omega (arith, c.requires.0.points-ok.few))
+
+pub overflow_sub-next : goal.overflow_sub-next
+overflow_sub-next c = omega (arith, c.loop-k.invariant.2, c.percent_of-next.ensures)
+
+pub split-part-requires : goal.split-part-requires
+split-part-requires c =
+    let b = c in
+    let o = b.requires.0 in
+    let w = c in
+    let l = c.loop-k in
+    let sm = o.points-ok.by_sums b.requires.1 in
+    let g = l.invariant.3 sm.0 sm.1 in
+    let r = c in
+    let row_in : r.index-row.result < 64 = omega (arith, r.index-row.ensures.0, r.return_row.ensures, o.points-ok.rows l.k (omega arith)) in (
+      row_in,
+      record {
+        pattern = sm.0;
+        by_sums = sm.1;
+        small = omega (arith, c.percent_of-next.ensures, next_small o l.k l.c w.wide8-p.result w.loop-k-test.true l.invariant.1 (w.wide8-p.ensures.0 ∙ w.return_percent.ensures));
+        on = omega (arith, g.size, o.board.size);
+        dues_roomy = record { room = λ j. omega (arith, g.filled j, o.board.room.room j, o.points-ok.few) };
+      },
+    )
+
+pub give_share-requires : goal.give_share-requires
+give_share-requires c =
+    let b = c in
+    let o = b.requires.0 in
+    let w = c in
+    let l = c.loop-k in
+    let sm = o.points-ok.by_sums b.requires.1 in
+    let r = c in
+    let x = c.split-part in
+    can-return b.args.below.now l.flow l.available x.result.at_once r.index-row.result
+    (river-after _ _ _ _ _ _ _ _ l.k l.flow l.available l.board l.deep (l.invariant.3 sm.0 sm.1) (omega (arith, o.points-ok.few)) o.river)
+    (omega (arith, r.index-row.ensures.0, r.return_row.ensures, o.points-ok.rows l.k (omega arith)))
+    (omega (arith, c.percent_of-next.ensures, (split-le _ _ _ _ _ x.result sm.1.good.sum_most (x.ensures sm.0 sm.1)).0, next_small o l.k l.c w.wide8-p.result w.loop-k-test.true l.invariant.1 (w.wide8-p.ensures.0 ∙ w.return_percent.ensures)))
+
+pub overflow_add-deep : goal.overflow_add-deep
+overflow_add-deep c =
+    let b = c in
+    let o = b.requires.0 in
+    let w = c in
+    let l = c.loop-k in
+    let sm = o.points-ok.by_sums b.requires.1 in
+    let x = c.split-part in
+    let x-le = split-le _ _ _ _ _ x.result sm.1.good.sum_most (x.ensures sm.0 sm.1) in
+    omega (arith, (l.invariant.3 sm.0 sm.1).lost_most, o.points-ok.few, x-le.1, c.percent_of-next.ensures, next_small o l.k l.c w.wide8-p.result w.loop-k-test.true l.invariant.1 (w.wide8-p.ensures.0 ∙ w.return_percent.ensures))
+
+pub overflow_add-c-in-loop-k : goal.overflow_add-c-in-loop-k
+overflow_add-c-in-loop-k c =
+    let w = c in
+    let l = c.loop-k in
+    omega (arith, percents-in c.requires.0 l.k l.c w.wide8-p.result w.loop-k-test.true l.invariant.1 (w.wide8-p.ensures.0 ∙ w.return_percent.ensures))
+
+pub loop-k-preserved : goal.loop-k-preserved
+loop-k-preserved c =
+    let b = c in
+    let o = b.requires.0 in
+    let i = b.args.back.right in
+    let rest = b.args.back.amount in
+    let ri = b.args.rights.now in
+    let w = c in
+    let l = c.loop-k in
+    let p = w.wide8-p.result in
+    let pe = w.wide8-p.ensures.0 ∙ w.return_percent.ensures in
+    let on = w.loop-k-test.true in
+    let r = c in
+    let row = r.index-row.result in
+    let re : row ≡ return_row ri i l.k = r.index-row.ensures.0 ∙ r.return_row.ensures in
+    let ne = c.percent_of-next.ensures in
+    let amount : ℕ = c.percent_of-next.result - l.before in
+    let ae : amount ≡ (part_in ri i rest l.k).amount = ap (λ (y : ℕ). y - l.before) ne ∙ ap (λ (y : ℕ). rest * (l.c + p) / 100 - y) l.invariant.2 ∙ amount-is ri i rest l.k l.c p l.invariant.1 pe in
+    let q : Part = record { row = row; amount = amount } in
+    let x = c.split-part in (
+      omega arith,
+      omega (arith, pe, total-more (return_percent ri i) l.k l.c l.invariant.1),
+      ne,
+      λ pattern s. gave-more b.args.below.now pattern ri i rest b.args.flow.now b.args.available.now b.args.board.now
+          l.k l.flow l.available l.board l.deep (l.invariant.3 pattern s) (omega (arith, o.points-ok.few))
+          q x.result _ _ _ (part-is ri i rest l.k row amount re ae)
+          s.good.sum_most
+          (omega (arith, re, o.points-ok.rows l.k (omega (arith, on))))
+          (omega (arith, ne, next_small o l.k l.c p on l.invariant.1 pe))
+          (x.ensures pattern s)
+          c.give_share.ensures,
+    )
+
+pub shape_of-board : goal.shape_of-board
+shape_of-board c =
+    let sm = c.requires.0.points-ok.by_sums c.requires.1 in
+    (c.loop-k.invariant.3 sm.0 sm.1).size
+
+pub returns : goal.returns
+returns c =
+    let l = c.loop-k in
+    let x = c.args in
+    λ pattern s. subst (λ (k : ℕ). Gave x.below.now pattern x.rights.now x.back.right k x.back.amount x.flow.now x.available.now x.board.now l.flow l.available l.board l.deep) (omega arith) (l.invariant.3 pattern (s c.requires.1))

@@ -1,0 +1,16 @@
+-- `returns::split::split_months` meets its contract. Assumes nothing.
+use Rattle.returns.specs.Dues.{Sums, Lagged}
+use Rattle.returns.proofs.Shares.{sums-most, floors-rise, floor-le, not_last, lagged-none, lagged-more, lagged-le, split_done}
+use Prim.Native.Nat.{ℕ, ◌+◌, ◌-◌, ◌*◌, ◌/◌, ◌≤◌}
+use mathlib.Core.Path.{◌≡◌, refl, ap, ◌∙◌}
+use mathlib.Core.List.{List}
+use native.Mathlib.Omega.{arith}
+use borrow.Author.Rules.{rules}
+use lib.ListN.{get_or}
+use Rattle.returns.proofs.split.split_months.Given as goal
+
+abbrev pub invariant-loop-k : goal.invariant-loop-k
+invariant-loop-k l = (l.whole ≡ get_or l.sums 11 0) × (l.k ≤ 11) × (l.before ≡ l.a * get_or l.sums l.k 0 / 100) × ((pattern : List ℕ) → Sums pattern l.sums → Lagged pattern l.a l.at l.k l.initial.dues l.dues)
+
+abbrev pub decreases-loop-k : goal.decreases-loop-k
+decreases-loop-k l = 11 - l.k
