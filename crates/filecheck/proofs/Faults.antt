@@ -2,7 +2,6 @@
 use mathlib.Core.Path.{◌≡◌, refl, sym, ap, ◌∙◌}
 use mathlib.Core.Bool.{Bool, true, false, not}
 use mathlib.Core.List.{List, [], ◌∷◌}
-use mathlib.Core.Logic.{⊎_elim}
 use mathlib.Core.Option.{Option, none, some}
 use Prim.Native.Nat.{ℕ, ◌+◌, ◌-◌, ◌≤◌, ◌<◌}
 use native.Mathlib.Nat.{sub-zero}
@@ -11,11 +10,8 @@ use Rattle.general.specs.Tests.{first_at, first_fault}
 use Rattle.general.proofs.Tests.{both_of, lt_of}
 use Rattle.general.proofs.Search.{first-within, no-fault}
 use Rattle.general.proofs.Loops.{search-here, search-on, search-over}
-use denote.Enum.Declared.{tag_of}
-use types.Run.{OneOf}
 use Rattle.rules.specs.declared.Verdict.{Verdict}
 use Rattle.rules.specs.declared.Verdict.TheVariants.{Accepted, Layout, Station, Reservoir, Pattern, Right, Lists, Board, Runoff, Book, Year, Name, Full}
-use Rattle.rules.specs.contracts.Verdict.{the_type}
 use Rattle.sections.specs.File.{layout_ok, section_of}
 use Rattle.records.specs.Records.{rows_of, reservoir_count, reservoir_record, pattern_count, right_count}
 use Rattle.filerules.specs.FileRules.{station_ok, reservoir_plain, reservoir_ok, pattern_ok, right_ok}
@@ -71,22 +67,6 @@ module _ (v : ℕ → Verdict) (ok : ℕ → Bool) (n : ℕ) where
       go false e = sym (only-bad (v i) refl) ∙ verdict-here i (omega arith) e
 
 -- ---- one body after the other
-
--- a verdict whose tag is not that of acceptance
-pub refused : (v : Verdict) → OneOf (1 ∷ 2 ∷ 3 ∷ 4 ∷ 5 ∷ 6 ∷ 7 ∷ 8 ∷ 9 ∷ 10 ∷ 11 ∷ 12 ∷ []) (tag_of the_type v) → v ≡ Accepted → ⊥
-refused Accepted h e = ⊎_elim (λ k. omega arith) (⊎_elim (λ k. omega arith) (⊎_elim (λ k. omega arith) (⊎_elim (λ k. omega arith) (⊎_elim (λ k. omega arith) (⊎_elim (λ k. omega arith) (⊎_elim (λ k. omega arith) (⊎_elim (λ k. omega arith) (⊎_elim (λ k. omega arith) (⊎_elim (λ k. omega arith) (⊎_elim (λ k. omega arith) (λ k. omega arith))))))))))) h
-refused Layout h e = let z : ◌≡◌ {A = ℕ} 0 1 = cc in omega arith
-refused (Station i) h e = let z : ◌≡◌ {A = ℕ} 0 1 = cc in omega arith
-refused (Reservoir i) h e = let z : ◌≡◌ {A = ℕ} 0 1 = cc in omega arith
-refused (Pattern i) h e = let z : ◌≡◌ {A = ℕ} 0 1 = cc in omega arith
-refused (Right i) h e = let z : ◌≡◌ {A = ℕ} 0 1 = cc in omega arith
-refused Lists h e = let z : ◌≡◌ {A = ℕ} 0 1 = cc in omega arith
-refused Board h e = let z : ◌≡◌ {A = ℕ} 0 1 = cc in omega arith
-refused (Runoff i) h e = let z : ◌≡◌ {A = ℕ} 0 1 = cc in omega arith
-refused Book h e = let z : ◌≡◌ {A = ℕ} 0 1 = cc in omega arith
-refused Year h e = let z : ◌≡◌ {A = ℕ} 0 1 = cc in omega arith
-refused Name h e = let z : ◌≡◌ {A = ℕ} 0 1 = cc in omega arith
-refused Full h e = let z : ◌≡◌ {A = ℕ} 0 1 = cc in omega arith
 
 -- a body at fault hides the later ones
 fault-stops : (k : ℕ → Verdict) (o : Option ℕ) (later : Verdict) → (fault_or k o Accepted ≡ Accepted → ⊥) → fault_or k o Accepted ≡ fault_or k o later

@@ -1,4 +1,6 @@
 // The check that accepts or refuses a basin file (document 01).
+#![tactic(auto)]
+
 pub mod check;
 pub mod patterns;
 pub mod reservoirs;

@@ -1,4 +1,6 @@
 // Steps 1 and 2 of a month: the river and the board before the first right.
+#![tactic(auto)]
+
 ghost use Rattle.std.specs.Prelude.{◌≡◌, eqb, length};
 ghost use Rattle.places.specs.Board.{month_at};
 ghost use Rattle.opening.specs.Opening.{CanGather, Gathered, CanOpen, opened_board};

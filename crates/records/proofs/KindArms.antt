@@ -1,59 +1,44 @@
--- What an arm of a match on a kind that names several kinds is told. Assumes nothing.
-use mathlib.Core.List.{[], ◌∷◌}
-use mathlib.Core.Logic.{inl, inr}
-use native.Mathlib.Omega.{arith}
-use denote.Enum.Declared.{tag_of}
-use types.Run.{OneOf}
+-- What an arm of a match on a kind that names several kinds is told, or one that takes what the arms before it leave. Assumes nothing.
+use mathlib.Core.Logic.{◌⊎◌, inl, inr}
+use mathlib.Core.Path.{◌≡◌, refl, sym, subst}
 use Rattle.records.specs.declared.rights.Kind.{Kind}
 use Rattle.records.specs.declared.rights.Kind.TheVariants.{Direct, Project, Instream, Storage}
-use Rattle.records.specs.contracts.rights.Kind.{the_type}
 
 -- what holds of each kind that the arm names holds of the kind that came there
-module _ {ℓ} (P : Kind → Type ℓ) where
-  pub direct-or-project : P Direct → P Project → (k : Kind) → OneOf (0 ∷ 1 ∷ []) (tag_of the_type k) → P k
-  direct-or-project d p Direct h = d
-  direct-or-project d p Project h = p
-  direct-or-project d p Instream (inl e) = absurd (omega arith)
-  direct-or-project d p Instream (inr e) = absurd (omega arith)
-  direct-or-project d p Storage (inl e) = absurd (omega arith)
-  direct-or-project d p Storage (inr e) = absurd (omega arith)
+module _ (P : Kind → Type 0) where
+  pub direct-or-project : P Direct → P Project → (k : Kind) → (k ≡ Direct) ⊎ (k ≡ Project) → P k
+  direct-or-project d p k (inl e) = subst P (sym e) d
+  direct-or-project d p k (inr e) = subst P (sym e) p
 
-  pub direct-or-instream : P Direct → P Instream → (k : Kind) → OneOf (0 ∷ 2 ∷ []) (tag_of the_type k) → P k
-  direct-or-instream d i Direct h = d
-  direct-or-instream d i Project (inl e) = absurd (omega arith)
-  direct-or-instream d i Project (inr e) = absurd (omega arith)
-  direct-or-instream d i Instream h = i
-  direct-or-instream d i Storage (inl e) = absurd (omega arith)
-  direct-or-instream d i Storage (inr e) = absurd (omega arith)
+  pub direct-or-instream : P Direct → P Instream → (k : Kind) → (k ≡ Direct) ⊎ (k ≡ Instream) → P k
+  direct-or-instream d i k (inl e) = subst P (sym e) d
+  direct-or-instream d i k (inr e) = subst P (sym e) i
 
-  pub instream-or-storage : P Instream → P Storage → (k : Kind) → OneOf (2 ∷ 3 ∷ []) (tag_of the_type k) → P k
-  instream-or-storage i s Direct (inl e) = absurd (omega arith)
-  instream-or-storage i s Direct (inr e) = absurd (omega arith)
-  instream-or-storage i s Project (inl e) = absurd (omega arith)
-  instream-or-storage i s Project (inr e) = absurd (omega arith)
-  instream-or-storage i s Instream h = i
-  instream-or-storage i s Storage h = s
+  pub instream-or-storage : P Instream → P Storage → (k : Kind) → (k ≡ Instream) ⊎ (k ≡ Storage) → P k
+  instream-or-storage i s k (inl e) = subst P (sym e) i
+  instream-or-storage i s k (inr e) = subst P (sym e) s
 
-  pub but-project : P Direct → P Instream → P Storage → (k : Kind) → OneOf (0 ∷ 2 ∷ 3 ∷ []) (tag_of the_type k) → P k
+  pub no-storage : P Direct → P Project → P Instream → (k : Kind) → (k ≡ Direct) ⊎ ((k ≡ Project) ⊎ (k ≡ Instream)) → P k
+  no-storage d p i k (inl e) = subst P (sym e) d
+  no-storage d p i k (inr (inl e)) = subst P (sym e) p
+  no-storage d p i k (inr (inr e)) = subst P (sym e) i
+
+-- what holds of each kind but one holds of a kind that is not that one
+module _ (P : Kind → Type 0) where
+  pub but-project : P Direct → P Instream → P Storage → (k : Kind) → (k ≡ Project → ⊥) → P k
   but-project d i s Direct h = d
-  but-project d i s Project (inl e) = absurd (omega arith)
-  but-project d i s Project (inr (inl e)) = absurd (omega arith)
-  but-project d i s Project (inr (inr e)) = absurd (omega arith)
+  but-project d i s Project h = absurd (h refl)
   but-project d i s Instream h = i
   but-project d i s Storage h = s
 
-  pub but-instream : P Direct → P Project → P Storage → (k : Kind) → OneOf (0 ∷ 1 ∷ 3 ∷ []) (tag_of the_type k) → P k
+  pub but-instream : P Direct → P Project → P Storage → (k : Kind) → (k ≡ Instream → ⊥) → P k
   but-instream d p s Direct h = d
   but-instream d p s Project h = p
-  but-instream d p s Instream (inl e) = absurd (omega arith)
-  but-instream d p s Instream (inr (inl e)) = absurd (omega arith)
-  but-instream d p s Instream (inr (inr e)) = absurd (omega arith)
+  but-instream d p s Instream h = absurd (h refl)
   but-instream d p s Storage h = s
 
-  pub but-storage : P Direct → P Project → P Instream → (k : Kind) → OneOf (0 ∷ 1 ∷ 2 ∷ []) (tag_of the_type k) → P k
+  pub but-storage : P Direct → P Project → P Instream → (k : Kind) → (k ≡ Storage → ⊥) → P k
   but-storage d p i Direct h = d
   but-storage d p i Project h = p
   but-storage d p i Instream h = i
-  but-storage d p i Storage (inl e) = absurd (omega arith)
-  but-storage d p i Storage (inr (inl e)) = absurd (omega arith)
-  but-storage d p i Storage (inr (inr e)) = absurd (omega arith)
+  but-storage d p i Storage h = absurd (h refl)

@@ -106,7 +106,7 @@ module _ (T : BeforeTurn) where
     kept-all = kept_on R.basin T.board S.river.board A.board
         (subst (Kept R.basin T.board) (sym S.river.stored)
         (kept-stored R.basin T.board (the_reservoir R) few_reservoirs (the_kind R) (capacity_in R.reservoirs (the_reservoir R)) R.place (the_part S.river) storage-there
-        (omega (arith, R.in_List, rights-count R.setting)) (place-most R) T.board-ok.size (unmarked T S.river.given)))
+        (omega (arith, R.in_list, rights-count R.setting)) (place-most R) T.board-ok.size (unmarked T S.river.given)))
         (kept_on R.basin S.river.board S.board A.board
         (subst (Kept R.basin S.river.board) (sym S.drew.board) (kept-drawn R.basin S.river.board (the_reservoir R) few_reservoirs (the_kind R) S.drawn project-there))
         (kept_same R.basin S.board A.board gave-back.same))

@@ -98,7 +98,7 @@ module _ (R : RightAt) where
   module _ (f a : List ℕ) (sh : List Bool) (bd : List ℕ) where
     state-taken : get_or (state_of R.basin f a sh bd).taken R.place 0 ≡ get_or bd (10 + R.place) 0
     unfolding state_of
-    state-taken = taken_at_lem (length R.basin.rights) bd R.place (omega (arith, R.in_List, rights-count R.setting))
+    state-taken = taken_at_lem (length R.basin.rights) bd R.place (omega (arith, R.in_list, rights-count R.setting))
 
     module _ (v : ℕ) (e : v ≡ the_reservoir R) (there : v < reservoir_count R.reservoirs) where
       pub state-storage : storage_of (the_right R) (state_of R.basin f a sh bd) ≡ storage_at bd v

@@ -51,14 +51,14 @@ module _ (T : BeforeTurn) where
 
   pub can-ask : CanAsk R.reservoirs R.rights R.place T.month T.board
   can-ask = record {
-    place = R.in_List;
+    place = R.in_list;
     most = place-most R;
     in-year = T.in-year;
     size = T.board-ok.size;
     stores = λ z. let there : the_reservoir R < reservoir_count R.reservoirs = storage-behind R z in record {
       there = there;
       eight = omega (arith, few_reservoirs R);
-      taken = omega (arith, T.within.taken R.place (omega (arith, R.in_List, rights-count R.setting)), ap (λ (x : Right). x.limit) (right_is R.setting R.place R.in_List), limit_is R);
+      taken = omega (arith, T.within.taken R.place (omega (arith, R.in_list, rights-count R.setting)), ap (λ (x : Right). x.limit) (right_is R.setting R.place R.in_list), limit_is R);
       held = omega (arith, T.within.storages (the_reservoir R) (omega (arith, there, reservoirs-count R.setting)), capacity-is R.setting (the_reservoir R) there);
     };
   }

@@ -23,10 +23,10 @@ use Rattle.turns.proofs.Facts.{few, reservoirs-count, rights-count, right_is}
 
 module _ (R : RightAt) where
   pub right-good : GoodRight R.basin (the_right R)
-  right-good = subst (GoodRight R.basin) (right_is R.setting R.place R.in_List) (all-at-place (GoodRight R.basin) R.basin.rights no_right R.setting.accepted.rights_good R.place (omega (arith, rights-count R.setting, R.in_List)))
+  right-good = subst (GoodRight R.basin) (right_is R.setting R.place R.in_list) (all-at-place (GoodRight R.basin) R.basin.rights no_right R.setting.accepted.rights_good R.place (omega (arith, rights-count R.setting, R.in_list)))
 
   pub place-most : R.place < 256
-  place-most = omega (arith, R.in_List, rights-count R.setting, R.setting.accepted.few_rights)
+  place-most = omega (arith, R.in_list, rights-count R.setting, R.setting.accepted.few_rights)
 
   -- fields of the right, as its record has them
   pub kind-is : (the_right R).kind ≡ kind_of (the_record R).kind
@@ -97,7 +97,7 @@ module _ (R : RightAt) where
   no_points e =
       let z : the_points R ≡ 0 = sym points-count ∙ ap length e in
       record {
-        right_in = R.in_List;
+        right_in = R.in_list;
         few = omega arith;
         rows = λ k h. absurd (omega arith);
         percents = rw z (omega arith);
@@ -127,7 +127,7 @@ module _ (R : RightAt) where
 
   some-points : Returned R.basin (the_right R) → PointsOk R.patterns R.rights R.place (the_points R) (the_record R).pattern
   some-points p = record {
-    right_in = R.in_List;
+    right_in = R.in_list;
     few = omega (arith, p.few_points, points-count);
     rows = λ k h. omega (arith, point-in k h, few R.setting);
     percents = omega (arith, percent-sum, p.whole);

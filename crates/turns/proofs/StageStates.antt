@@ -61,7 +61,7 @@ module _ (R : RightAt) where
     in-r = omega (arith, there, reservoirs-count R.setting)
 
     in-i : R.place < length R.basin.rights
-    in-i = omega (arith, R.in_List, rights-count R.setting)
+    in-i = omega (arith, R.in_list, rights-count R.setting)
 
     storage-stage : state_of R.basin f' a' sh (poured (capacity_in R.reservoirs v) v R.place d bd) ≡ river_stage storage R.basin R.place r d (state_of R.basin f a sh bd)
     unfolding levels_taken river_stage after_diversion state_of

@@ -1,0 +1,16 @@
+-- `boards::possible::each_row_ok` meets its contract. The loop's invariant: all rows passed are possible. Assumes nothing.
+use mathlib.Core.Bool.{Bool}
+use mathlib.Core.Path.{◌≡◌, ap, ◌∙◌}
+use Prim.Native.Nat.{ℕ, ◌-◌, ◌≤◌}
+use native.Mathlib.Omega.{arith}
+use borrow.Author.Rules.{rules}
+use Rattle.general.proofs.Loops.{all_none, all_more}
+use Rattle.general.specs.Tests.{◌and◌, all_to}
+use Rattle.boards.specs.Bodies.{row_ok}
+use Rattle.boards.proofs.possible.each_row_ok.Given as goal
+
+abbrev pub invariant-loop-w : goal.invariant-loop-w
+invariant-loop-w l = (l.w ≤ l.n) × (l.all ≡ all_to l.w (row_ok l.board))
+
+abbrev pub decreases-loop-w : goal.decreases-loop-w
+decreases-loop-w l = l.n - l.w

@@ -1,0 +1,19 @@
+-- `filecheck::patterns::check_patterns` meets its contract. The loop's invariant: the patterns not yet looked at give the verdict. Assumes nothing.
+use mathlib.Core.Path.{◌≡◌, refl, ◌∙◌}
+use Prim.Native.Nat.{◌-◌, ◌≤◌}
+use native.Mathlib.Omega.{arith}
+use borrow.Author.Rules.{rules}
+use Rattle.general.specs.Sums.{sum}
+use Rattle.general.proofs.Tests.{leb_yes, leb_no}
+use Rattle.rules.specs.declared.Verdict.TheVariants.{Accepted, Pattern}
+use Rattle.records.specs.Records.{pattern_count, pattern_of}
+use Rattle.filerules.specs.FileRules.{pattern_ok}
+use Rattle.filecheck.specs.Check.{patterns_verdict}
+use Rattle.filecheck.proofs.Faults.{verdict_from, verdict-all, verdict-on, verdict-here, verdict-done}
+use Rattle.filecheck.proofs.patterns.check_patterns.Given as goal
+
+abbrev pub invariant-loop-p : goal.invariant-loop-p
+invariant-loop-p l = (l.n ≡ pattern_count l.patterns) × (l.p ≤ l.n) × (verdict_from Pattern (pattern_ok l.patterns) l.n l.p ≡ patterns_verdict l.patterns Accepted)
+
+abbrev pub decreases-loop-p : goal.decreases-loop-p
+decreases-loop-p l = l.n - l.p

@@ -1,0 +1,46 @@
+use mathlib.Core.Path.{◌≡◌, sym, ap, ◌∙◌}
+use Prim.Native.Nat.{◌+◌, ◌-◌, ◌≤◌}
+use native.Mathlib.Omega.{arith}
+use borrow.Author.Rules.{rules}
+use borrow.Author.Tests.{not-true, not-false}
+use Rattle.rules.specs.declared.Verdict.TheVariants.{Accepted, Station}
+use Rattle.records.specs.Records.{rows_of}
+use Rattle.filerules.specs.FileRules.{station_ok}
+use Rattle.filecheck.specs.Check.{stations_verdict}
+use Rattle.filecheck.proofs.Faults.{verdict_from, verdict-all, verdict-on, verdict-here, verdict-last}
+use Rattle.filecheck.proofs.Found.{found_to, found_none, found-lost, found-small, found-more, found_all}
+use Rattle.filerules.proofs.RowRules.{plain-fails, row-lost, row-good}
+use Rattle.filecheck.proofs.stations.check_stations.Goals as goal
+
+pub loop-row-init : goal.loop-row-init
+unfolding stations_verdict
+loop-row-init c = (omega arith, omega arith, verdict-all _ _ _, c.requires.2 ∙ found_none _)
+
+pub returns-then-not-plain_ok : goal.returns-then-not-plain_ok
+returns-then-not-plain_ok c = let s = c.args.stations.now in let row = c.loop-row.row in record {
+  value = verdict-here Station (station_ok s) (rows_of s) row (omega arith) (plain-fails s row (sym c.plain_ok.ensures ∙ c.if-not-plain_ok.true)) ∙ c.loop-row.invariant.2;
+  table_for = found-lost s _ row;
+}
+
+pub returns-in_default : goal.returns-in_default
+returns-in_default c = let s = c.args.stations.now in let row = c.loop-row.row in record {
+  value = verdict-here Station (station_ok s) (rows_of s) row (omega arith) (row-lost s row (omega arith) _ c.row_below.ensures c.in_default.is) ∙ c.loop-row.invariant.2;
+  table_for = found-lost s _ row;
+}
+
+pub overflow_cast-below : goal.overflow_cast-below
+overflow_cast-below c = let h = found-small c.args.stations.now c.loop-row.row c.in-Row.next _ c.row_below.ensures c.in-Row.is c.requires.1 in omega arith
+
+pub loop-row-preserved : goal.loop-row-preserved
+loop-row-preserved c = let s = c.args.stations.now in let row = c.loop-row.row in let found = c.row_below.ensures in let told = c.in-Row.is in (
+  omega arith,
+  omega arith,
+  verdict-on Station (station_ok s) (rows_of s) row (omega arith) (row-good s row (omega arith) _ found _ told (sym c.plain_ok.ensures ∙ c.if-not-plain_ok.false)) ∙ c.loop-row.invariant.2,
+  found-more s row _ _ found told _ (omega arith) c.loop-row.invariant.3,
+)
+
+pub returns : goal.returns
+returns c =
+    let s = c.args.stations.now in
+    let e = c.check_last.ensures ∙ verdict-last Station (station_ok s) (rows_of s) _ c.loop-row.invariant.0 in
+    record { value = e ∙ ap (verdict_from Station (station_ok s) (rows_of s)) (omega arith) ∙ c.loop-row.invariant.2; table_for = λ _. found_all s _ c.loop-row.invariant.0 c.requires.1 _ (c.loop-row.invariant.3 ∙ ap (found_to s) (omega arith)) }

@@ -1,0 +1,21 @@
+-- `filecheck::stations::check_stations` meets its contract. The loop's invariant: the rows not yet looked at give the verdict, and the table has the rows
+-- below of the others. The last row has its own function. Assumes nothing.
+use mathlib.Core.Path.{◌≡◌, sym, ap, ◌∙◌}
+use Prim.Native.Nat.{◌+◌, ◌-◌, ◌≤◌}
+use native.Mathlib.Omega.{arith}
+use borrow.Author.Rules.{rules}
+use borrow.Author.Tests.{not-true, not-false}
+use Rattle.rules.specs.declared.Verdict.TheVariants.{Accepted, Station}
+use Rattle.records.specs.Records.{rows_of}
+use Rattle.filerules.specs.FileRules.{station_ok}
+use Rattle.filecheck.specs.Check.{stations_verdict}
+use Rattle.filecheck.proofs.Faults.{verdict_from, verdict-all, verdict-on, verdict-here, verdict-last}
+use Rattle.filecheck.proofs.Found.{found_to, found_none, found-lost, found-small, found-more, found_all}
+use Rattle.filerules.proofs.RowRules.{plain-fails, row-lost, row-good}
+use Rattle.filecheck.proofs.stations.check_stations.Given as goal
+
+abbrev pub invariant-loop-row : goal.invariant-loop-row
+invariant-loop-row l = (l.last + 1 ≡ rows_of l.stations) × (l.row ≤ l.last) × (verdict_from Station (station_ok l.stations) (rows_of l.stations) l.row ≡ stations_verdict l.stations Accepted) × (l.below ≡ found_to l.stations l.row)
+
+abbrev pub decreases-loop-row : goal.decreases-loop-row
+decreases-loop-row l = l.last - l.row

@@ -1,0 +1,23 @@
+-- `filerules::reservoirs::contents_rise` meets its contract. The loop's invariant: each pair passed holds less than the next. Assumes nothing.
+use mathlib.Core.Path.{◌≡◌, ap, ◌∙◌}
+use mathlib.Core.Bool.{Bool}
+use mathlib.Core.List.{List}
+use Prim.Native.Nat.{ℕ, ◌+◌, ◌-◌, ◌≤◌}
+use native.Mathlib.Omega.{arith}
+use borrow.Author.Rules.{rules}
+use lib.Dec.{ltb}
+use Rattle.general.specs.Tests.{◌and◌, all_to}
+use Rattle.general.proofs.Loops.{all_none, all_more}
+use Rattle.records.specs.Records.{content_at}
+use Rattle.filerules.specs.FileRules.{contents_rise}
+use Rattle.filerules.proofs.reservoirs.contents_rise.Given as goal
+
+-- pair k holds less than the next
+abbrev pub rises : List ℕ → ℕ → ℕ → Bool
+rises s v k = ltb (content_at s v k) (content_at s v (k + 1))
+
+abbrev pub invariant-loop-k : goal.invariant-loop-k
+invariant-loop-k l = (l.k ≤ 3) × (l.all ≡ all_to l.k (rises l.reservoirs l.v))
+
+abbrev pub decreases-loop-k : goal.decreases-loop-k
+decreases-loop-k l = 3 - l.k

@@ -1,0 +1,8 @@
+-- `filerules::rights::is_earlier` meets its contract. Assumes nothing.
+use borrow.Author.Rules.{rules}
+use Rattle.filerules.specs.FileRules.{earlier}
+use Rattle.filerules.proofs.rights.is_earlier.Goals as goal
+
+pub returns : goal.returns
+unfolding earlier
+returns c = cc

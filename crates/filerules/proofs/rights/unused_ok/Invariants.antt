@@ -1,0 +1,23 @@
+-- `filerules::rights::unused_ok` meets its contract. The loop's invariant: each pair passed is a return point or zero. Assumes nothing.
+use mathlib.Core.Path.{◌≡◌, ap, ◌∙◌}
+use mathlib.Core.Bool.{Bool, ◌||◌}
+use mathlib.Core.List.{List}
+use Prim.Native.Nat.{ℕ, ◌-◌, ◌≤◌}
+use native.Mathlib.Omega.{arith}
+use borrow.Author.Rules.{rules}
+use lib.Dec.{ltb, eqb}
+use Rattle.general.specs.Tests.{◌and◌, all_to}
+use Rattle.general.proofs.Loops.{all_none, all_more}
+use Rattle.records.specs.Records.{return_row, return_percent}
+use Rattle.filerules.specs.FileRules.{unused_ok}
+use Rattle.filerules.proofs.rights.unused_ok.Given as goal
+
+-- pair k is a return point, or zero
+abbrev pub good : List ℕ → ℕ → ℕ → ℕ → Bool
+good s i points k = ltb k points || (eqb (return_row s i k) 0 and eqb (return_percent s i k) 0)
+
+abbrev pub invariant-loop-k : goal.invariant-loop-k
+invariant-loop-k l = (l.k ≤ 4) × (l.all ≡ all_to l.k (good l.rights l.i l.points))
+
+abbrev pub decreases-loop-k : goal.decreases-loop-k
+decreases-loop-k l = 4 - l.k

@@ -1,0 +1,11 @@
+-- `grants::grants::station_number` meets its contract. Assumes nothing.
+use Rattle.grants.proofs.Looks.{number_is}
+use mathlib.Core.Path.{sym, ◌∙◌}
+use native.Mathlib.Omega.{arith}
+use borrow.Author.Rules.{rules}
+use Rattle.grants.proofs.grants.station_number.Goals as goal
+
+pub returns : goal.returns
+returns c =
+    let b = c in
+    c.le32.ensures ∙ sym (number_is b.args.stations.now b.args.row (omega arith))
