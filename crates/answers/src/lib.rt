@@ -1,4 +1,6 @@
 // The answer of a call: a number and a place, 0 for acceptance (document 01).
+#![tactic(auto)]
+
 ghost use Rattle.std.specs.Prelude.{◌≡◌};
 ghost use Rattle.rules.specs.Answers.{number_of, place_of, told};
 ghost use Rattle.answers.specs.Answers.{answer_of, file_refusal, settled};

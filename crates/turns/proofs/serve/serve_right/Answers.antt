@@ -18,14 +18,14 @@ pub take-requires : goal.take-requires
 take-requires c =
     let g = c in
     let a = g in
-    take-ok (the-turn a.requires) (as_read a.right_at-right.ensures a.index.ensures.0 a.index2.ensures.0)
+    take-ok (the-turn a.requires) (as_read a.right_at-right.ensures a.index-row.ensures.0 a.index-v.ensures.0)
     g.demand_of-demand.ensures g.river_part-river.ensures
 
 pub fill-requires : goal.fill-requires
 fill-requires c =
     let g = c in
     let a = g in
-    fill-ok (the-turn a.requires) (as_read a.right_at-right.ensures a.index.ensures.0 a.index2.ensures.0)
+    fill-ok (the-turn a.requires) (as_read a.right_at-right.ensures a.index-row.ensures.0 a.index-v.ensures.0)
     g.demand_of-demand.ensures g.river_part-river.ensures
 
 pub overflow_sub-demand : goal.overflow_sub-demand
@@ -34,7 +34,7 @@ overflow_sub-demand c =
     let a = g in
     omega (
       arith,
-      part-ok (the-turn a.requires) (as_read a.right_at-right.ensures a.index.ensures.0 a.index2.ensures.0)
+      part-ok (the-turn a.requires) (as_read a.right_at-right.ensures a.index-row.ensures.0 a.index-v.ensures.0)
           g.demand_of-demand.ensures g.river_part-river.ensures,
     )
 
@@ -42,7 +42,7 @@ pub draw-stored-requires : goal.draw-stored-requires
 draw-stored-requires c =
     let g = c in
     let a = g in
-    draw-ok (the-turn a.requires) (as_read a.right_at-right.ensures a.index.ensures.0 a.index2.ensures.0)
+    draw-ok (the-turn a.requires) (as_read a.right_at-right.ensures a.index-row.ensures.0 a.index-v.ensures.0)
     g.demand_of-demand.ensures g.river_part-river.ensures
     c.take.ensures c.fill.ensures
 
@@ -51,8 +51,8 @@ finish-requires c =
     let x = c in
     let g = x in
     let a = g in
-    finish-ok (the-turn a.requires) (as_read a.right_at-right.ensures a.index.ensures.0 a.index2.ensures.0)
-    g.demand-of.ensures g.river-part.ensures
+    finish-ok (the-turn a.requires) (as_read a.right_at-right.ensures a.index-row.ensures.0 a.index-v.ensures.0)
+    g.demand_of-demand.ensures g.river_part-river.ensures
     x.take.ensures x.fill.ensures x.draw-stored.ensures x.short_reason-why.result
 
 pub returns : goal.returns
@@ -62,6 +62,6 @@ returns c =
     let g = x in
     let a = g in
     let t = turn_in a.requires b w in
-    turned t (after_turn t (as_read a.right_at-right.ensures a.index.ensures.0 a.index2.ensures.0)
-    g.demand-of.ensures g.river-part.ensures
+    turned t (after_turn t (as_read a.right_at-right.ensures a.index-row.ensures.0 a.index-v.ensures.0)
+    g.demand_of-demand.ensures g.river_part-river.ensures
     x.take.ensures x.fill.ensures x.draw-stored.ensures x.short_reason-why.ensures c.finish.ensures)

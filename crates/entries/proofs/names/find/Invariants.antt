@@ -1,0 +1,15 @@
+-- `entries::names::find` meets its contract. The loop's invariant: the entries not yet looked at give the answer that is asked for. Assumes nothing.
+use mathlib.Core.Path.{◌≡◌, refl, sym, ap, ◌∙◌}
+use Prim.Native.Nat.{◌-◌, ◌≤◌}
+use native.Mathlib.Omega.{arith}
+use borrow.Author.Rules.{rules}
+use Rattle.general.specs.Tests.{first_at}
+use Rattle.general.proofs.Loops.{search-here, search-on, search-over}
+use Rattle.entries.specs.Entries.{is_named, first_named, found_of}
+use Rattle.entries.proofs.names.find.Given as goal
+
+abbrev pub invariant-loop-entry : goal.invariant-loop-entry
+invariant-loop-entry l = (l.entry ≤ 4) × (first_at (4 - l.entry) l.entry (is_named l.store l.name) ≡ first_named l.store l.name)
+
+abbrev pub decreases-loop-entry : goal.decreases-loop-entry
+decreases-loop-entry l = 4 - l.entry

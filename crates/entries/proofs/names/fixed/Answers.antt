@@ -1,0 +1,7 @@
+-- `entries::names::fixed` meets its contract. Assumes nothing.
+use borrow.Author.Rules.{rules}
+use Rattle.entries.proofs.Numbers.{eight-elements}
+use Rattle.entries.proofs.names.fixed.Goals as goal
+
+pub returns : goal.returns
+returns c = let a = c in eight-elements a.args.name.now a.requires
