@@ -1,4 +1,6 @@
 // The fresh board of a basin.
+#![tactic(auto)]
+
 ghost use Rattle.std.specs.Prelude.{◌≡◌, ◌≤◌, length, replicate};
 ghost use Rattle.places.specs.Board.{board_length};
 ghost use Rattle.records.specs.Records.{reservoir_count};

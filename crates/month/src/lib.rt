@@ -1,4 +1,6 @@
 // The call month.
+#![tactic(auto)]
+
 ghost use Rattle.month.specs.Month.{MonthMeets, outcome_of};
 
 use crate::refusals::judge_lent;

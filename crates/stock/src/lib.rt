@@ -1,4 +1,6 @@
 // What a board tells: its stock, which is all water stored and all water on its way back; and the short months of a right.
+#![tactic(auto)]
+
 ghost use Rattle.std.specs.Prelude.{◌≡◌};
 ghost use Rattle.answers.specs.Answers.{answer_of, settled};
 ghost use Rattle.stock.specs.Stock.{stock_refusal, stock_of, stock_told};

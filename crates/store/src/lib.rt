@@ -1,4 +1,6 @@
 // Named boards to come back to: a board saved under a name in bytes that the caller lends, recalled from there, and its name dropped.
+#![tactic(auto)]
+
 ghost use Rattle.std.specs.Prelude.{◌≡◌};
 ghost use Rattle.general.specs.Tests.{◌and◌};
 ghost use Rattle.answers.specs.Answers.{answer_of, settled};

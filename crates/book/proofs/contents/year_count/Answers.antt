@@ -1,0 +1,9 @@
+-- `book::contents::year_count` meets its contract. Assumes nothing.
+use mathlib.Core.Path.{◌∙◌}
+use Rattle.book.specs.Book.{year_count}
+use borrow.Author.Rules.{rules}
+use Rattle.book.proofs.contents.year_count.Goals as goal
+
+pub returns : goal.returns
+unfolding year_count
+returns c = c.size.ensures.0 ∙ c.le32.ensures

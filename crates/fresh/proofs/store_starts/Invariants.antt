@@ -1,0 +1,18 @@
+-- `fresh::store_starts` meets its contract. The loop's invariant: the reservoirs passed hold their starting storages. Assumes nothing.
+use mathlib.Core.Path.{◌≡◌, refl, ap, ◌∙◌, subst}
+use Prim.Native.Nat.{ℕ, ◌-◌, ◌≤◌}
+use native.Mathlib.Omega.{arith}
+use borrow.Author.Rules.{rules}
+use lib.ListN.{length, length-set}
+use Rattle.places.specs.Board.{board_length}
+use Rattle.records.specs.declared.reservoirs.ReservoirRecord.{ReservoirRecord}
+use Rattle.records.specs.Records.{reservoir_count}
+use Rattle.fresh.specs.Fresh.{Started}
+use Rattle.fresh.proofs.Start.{start_none, start-more}
+use Rattle.fresh.proofs.store_starts.Given as goal
+
+abbrev pub invariant-loop-v : goal.invariant-loop-v
+invariant-loop-v l = (l.n ≡ reservoir_count l.reservoirs) × (l.v ≤ l.n) × (length l.board ≡ board_length) × Started l.reservoirs l.v l.initial.board l.board
+
+abbrev pub decreases-loop-v : goal.decreases-loop-v
+decreases-loop-v l = l.n - l.v

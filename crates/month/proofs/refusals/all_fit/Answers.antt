@@ -1,0 +1,7 @@
+-- `month::refusals::all_fit` meets its contract. Assumes nothing.
+use borrow.Author.Rules.{rules}
+use Rattle.month.proofs.Settling.{lists-bodies}
+use Rattle.month.proofs.refusals.all_fit.Goals as goal
+
+pub returns : goal.returns
+returns c = let a = c.args in λ ps. cc (lists-bodies a.stations.now a.reservoirs.now ps a.rights.now a.runoff.now a.board.now a.report.now)

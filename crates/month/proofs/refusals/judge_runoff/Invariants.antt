@@ -1,0 +1,15 @@
+use mathlib.Core.Path.{◌≡◌, refl, ◌∙◌}
+use Prim.Native.Nat.{◌-◌, ◌≤◌}
+use native.Mathlib.Omega.{arith}
+use borrow.Author.Rules.{rules}
+use lib.ListN.{length}
+use Rattle.rules.specs.Tally.{over_limit, over_answer}
+use Rattle.answers.specs.Answers.{settled}
+use Rattle.month.proofs.Settling.{over_from, over-all, over-here, over-on, over_done}
+use Rattle.month.proofs.refusals.judge_runoff.Given as goal
+
+abbrev pub invariant-loop-row : goal.invariant-loop-row
+invariant-loop-row l = (l.n ≡ length l.runoff) × (l.row ≤ l.n) × (over_from l.runoff l.n l.row ≡ settled (over_answer (over_limit l.runoff)))
+
+abbrev pub decreases-loop-row : goal.decreases-loop-row
+decreases-loop-row l = l.n - l.row

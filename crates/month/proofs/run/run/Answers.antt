@@ -1,0 +1,59 @@
+-- `month::run::run` meets its contract. Assumes nothing.
+use borrow.Author.Rules.{rules}
+use mathlib.Core.Path.{ap}
+use Prim.Native.Nat.{ℕ}
+use native.Mathlib.Omega.{arith}
+use lib.ListN.{get_or}
+use mathlib.Core.List.{List}
+use Rattle.general.proofs.Lists.{get_d-zeros, get_d-falses}
+use Rattle.records.specs.Records.{bodies}
+use Rattle.month.proofs.Opened.{opened-month}
+use Rattle.boards.proofs.Bounds.{month-most}
+use Rattle.month.proofs.Running.{run-rows, run-patterns, setting, can-gather, can-open, can-serve, can-end, ran}
+use Rattle.month.proofs.run.run.Goals as goal
+
+pub rows_below-below-requires : goal.rows_below-below-requires
+rows_below-below-requires c =
+    let s = c.args in
+    run-rows s.stations.now s.reservoirs.now s.patterns.now s.rights.now s.runoff.now s.board.now s.report.now c.requires
+
+pub decode_patterns-table-requires : goal.decode_patterns-table-requires
+decode_patterns-table-requires c =
+    let s = c.args in
+    run-patterns s.stations.now s.reservoirs.now s.patterns.now s.rights.now s.runoff.now s.board.now s.report.now c.requires
+
+pub begin-requires : goal.begin-requires
+begin-requires c =
+    let s = c.args in (
+      can-gather s.stations.now s.reservoirs.now s.patterns.now s.rights.now s.runoff.now s.board.now s.report.now c.requires _ c.rows_below-below.ensures _ c.decode_patterns-table.ensures _ _ (omega arith) (omega arith) (get_d-zeros 64) (get_d-zeros 64),
+      can-open s.stations.now s.reservoirs.now s.patterns.now s.rights.now s.runoff.now s.board.now s.report.now c.requires,
+    )
+
+pub bounds-board-0 : goal.bounds-board-0
+bounds-board-0 c = omega (arith, c.requires.size)
+
+pub in_year-m-requires : goal.in_year-m-requires
+in_year-m-requires c =
+    let s = c.args in
+    let p = c.requires in
+    let b = bodies s.stations.now s.reservoirs.now s.patterns.now s.rights.now in
+    omega (arith, ap (λ (x : List ℕ). get_or x 0 0) c.begin.ensures.1, opened-month s.board.now, month-most b s.board.now p.can)
+
+pub serve_all-deep-requires : goal.serve_all-deep-requires
+serve_all-deep-requires c =
+    let s = c.args in
+    can-serve s.stations.now s.reservoirs.now s.patterns.now s.rights.now s.runoff.now s.board.now s.report.now c.requires _ c.rows_below-below.ensures _ c.decode_patterns-table.ensures _ _ c.begin.ensures.0 _ _ c.begin.ensures.1 (get_d-falses 64) (omega arith) _ c.in_year-m.ensures
+
+pub end-requires : goal.end-requires
+end-requires c =
+    let s = c.args in
+    let w = setting s.stations.now s.reservoirs.now s.patterns.now s.rights.now s.runoff.now s.board.now s.report.now c.requires _ c.rows_below-below.ensures _ c.decode_patterns-table.ensures in
+    let b = bodies s.stations.now s.reservoirs.now s.patterns.now s.rights.now in
+    can-end s.stations.now s.reservoirs.now s.patterns.now s.rights.now s.runoff.now s.board.now s.report.now c.requires _ c.rows_below-below.ensures _ c.decode_patterns-table.ensures _ _ c.begin.ensures.0 _ _ c.begin.ensures.1 (get_d-falses 64) (omega arith) _ c.in_year-m.ensures _ _ _ _ _ _ (c.serve_all-deep.ensures b w)
+
+pub returns : goal.returns
+returns c =
+    let s = c.args in
+    let w = setting s.stations.now s.reservoirs.now s.patterns.now s.rights.now s.runoff.now s.board.now s.report.now c.requires _ c.rows_below-below.ensures _ c.decode_patterns-table.ensures in
+    let b = bodies s.stations.now s.reservoirs.now s.patterns.now s.rights.now in
+    ran s.stations.now s.reservoirs.now s.patterns.now s.rights.now s.runoff.now s.board.now s.report.now c.requires _ c.rows_below-below.ensures _ c.decode_patterns-table.ensures _ _ c.begin.ensures.0 _ _ c.begin.ensures.1 (get_d-falses 64) (omega arith) _ c.in_year-m.ensures _ _ _ _ _ _ (c.serve_all-deep.ensures b w) _ _ _ c.end.ensures
