@@ -1,0 +1,8 @@
+-- `lines::frame::put_header` meets its contract. Assumes nothing.
+use Rattle.listing.specs.Listing.{header}
+use borrow.Author.Rules.{rules}
+use Rattle.lines.proofs.frame.put_header.Goals as goal
+
+pub returns : goal.returns
+unfolding header
+returns c = c.put_bytes.ensures

@@ -1,0 +1,52 @@
+-- `years::run::judge_year` meets its contract. Assumes nothing.
+use mathlib.Core.Path.{sym, ap, ◌∙◌}
+use mathlib.Core.List.{List}
+use Prim.Native.Nat.{ℕ}
+use native.Mathlib.Omega.{arith}
+use lib.ListN.{length}
+use lib.Seq.{length-take-le}
+use Rattle.records.specs.Records.{basin_of}
+use Rattle.filecheck.proofs.Accepted.{accepted-facts}
+use Rattle.boards.proofs.Bounds.{month-most}
+use Rattle.book.proofs.LookUp.{found, not_found}
+use Rattle.years.proofs.Sheets.{read_by}
+use Rattle.years.proofs.Runs.{judged-missing, judged-found}
+use borrow.Author.Rules.{rules}
+use Rattle.years.proofs.run.judge_year.Goals as goal
+
+pub returns-then-body-eq0 : goal.returns-then-body-eq0
+returns-then-body-eq0 c =
+    let s = c.args in
+    let f = s.file.now in
+    let k = s.book.now in
+    let e = ap (λ (x : List ℕ). length x) c.year_part-body.ensures in
+    λ old room. judged-missing f k s.year s.board.now old _ (not_found f k s.year (sym e ∙ c.if-body-eq0.true) _ c.find_year.ensures).1
+
+pub in_year-requires : goal.in_year-requires
+in_year-requires c = let s = c.args in month-most (basin_of s.file.now) s.board.now c.requires.can
+
+pub slice_bounds-runoff-end : goal.slice_bounds-runoff-end
+slice_bounds-runoff-end c = omega (arith, c.station_count-n.ensures, (accepted-facts c.args.file.now c.requires.accepted).few_rows)
+
+pub slice_bounds-judge_sheets-end : goal.slice_bounds-judge_sheets-end
+slice_bounds-judge_sheets-end c = sym (length-take-le _ _ (omega (arith, c.station_count-n.ensures, (accepted-facts c.args.file.now c.requires.accepted).few_rows)))
+
+pub judge_sheets-requires : goal.judge_sheets-requires
+judge_sheets-requires c =
+    let s = c.args in
+    let f = s.file.now in
+    let e = ap (λ (x : List ℕ). length x) c.year_part-body.ensures in
+    let g = found f s.book.now s.year (λ z. c.if-body-eq0.false (e ∙ z)) in
+    let few = (accepted-facts f c.requires.accepted).few_rows in (
+      read_by c.station_count-n.result (length-take-le _ _ (omega (arith, c.station_count-n.ensures, few))) (omega (arith, c.station_count-n.ensures, few)) (omega (arith, e, g.size, c.station_count-n.ensures)),
+      omega (arith, c.in_year.ensures, month-most (basin_of f) s.board.now c.requires.can),
+    )
+
+pub returns : goal.returns
+returns c =
+    let s = c.args in
+    let f = s.file.now in
+    let k = s.book.now in
+    let e = ap (λ (x : List ℕ). length x) c.year_part-body.ensures in
+    let g = found f k s.year (λ z. c.if-body-eq0.false (e ∙ z)) in
+    λ old room. judged-found f k s.year s.board.now old c.requires room _ _ c.year_part-body.ensures g.refused (length-take-le c.station_count-n.result _ (omega (arith, c.station_count-n.ensures, (accepted-facts f c.requires.accepted).few_rows)) ∙ c.station_count-n.ensures) c.in_year.ensures c.judge_sheets.ensures

@@ -1,0 +1,7 @@
+-- `years::run::run_fits` meets its contract. Assumes nothing.
+use Rattle.years.proofs.Runs.{run-fits-bodies}
+use borrow.Author.Rules.{rules}
+use Rattle.years.proofs.run.run_fits.Goals as goal
+
+pub returns : goal.returns
+returns c = let a = c.args in λ ps. cc (run-fits-bodies a.stations.now a.reservoirs.now ps a.rights.now a.board.now a.reports.now)
