@@ -1,2 +1,4 @@
 // The calls on lent numbers, as C has them.
+#![tactic(auto)]
+
 pub mod export;

@@ -1,4 +1,6 @@
 // What a program that lists does between reading and writing: it opens a listing, and lists the months sheet by sheet.
+#![tactic(auto)]
+
 pub mod blocks;
 pub mod opening;
 pub mod parts;

@@ -1,4 +1,6 @@
 // A year of a runoff book in a listing: whether its months may be listed, and the sheets to list them from.
+#![tactic(auto)]
+
 ghost use Rattle.std.specs.Prelude.{◌≡◌};
 ghost use Rattle.years.specs.Runs.{CanJudge};
 ghost use Rattle.yearly.specs.Years.{part_left};

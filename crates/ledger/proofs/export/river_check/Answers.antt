@@ -6,8 +6,7 @@ use borrow.Author.Rules.{rules}
 use Rattle.rules.specs.declared.Verdict.{Verdict}
 use Rattle.rules.specs.declared.Verdict.TheVariants.{Accepted, Layout, Station, Reservoir, Pattern, Right, Lists, Board, Runoff, Book, Year, Name, Full}
 use Rattle.rules.specs.Answers.{Answer, number_of}
-use Rattle.ledger.proofs.export.river_check.Statement.{statement}
-use Rattle.ledger.proofs.export.river_check.Tie as tie
+use Rattle.ledger.proofs.export.river_check.Goals as goal
 
 number-most : (v : Verdict) → number_of v ≤ 12
 number-most Accepted = omega arith
@@ -24,17 +23,8 @@ number-most Year = omega arith
 number-most Name = omega arith
 number-most Full = omega arith
 
-check-requires : tie.Need-check-requires
-check-requires c κs = search rules
+pub overflow_cast-result : goal.overflow_cast-result
+overflow_cast-result c = omega (arith, ap (λ (a : Answer). a.number) c.tell.ensures, number-most c.check.result)
 
-tell-requires : tie.Need-tell-requires
-tell-requires c κs = search rules
-
-cast-result : tie.Need-overflow-cast-result
-cast-result c = omega (arith, ap (λ (a : Answer). a.number) c.before.tell.ensures, number-most c.before.before.check.result)
-
-returns : tie.Need-returns
-returns c = ap (λ (a : Answer). a.number) c.before.tell.ensures ∙ ap number_of c.before.before.check.ensures
-
-pub river-check-spec : {M : Type 1} → statement M
-river-check-spec = tie.close (tie.spec check-requires tell-requires cast-result returns)
+pub returns : goal.returns
+returns c = ap (λ (a : Answer). a.number) c.tell.ensures ∙ ap number_of c.check.ensures

@@ -1,0 +1,8 @@
+-- `lister::blocks::sheet_size` meets its contract. Assumes nothing.
+use native.Mathlib.Omega.{arith}
+use Rattle.records.proofs.Decoded.{file-rows}
+use borrow.Author.Rules.{rules}
+use Rattle.lister.proofs.blocks.sheet_size.Goals as goal
+
+pub returns : goal.returns
+returns c = omega (arith, file-rows c.args.file.now c.section.ensures)
