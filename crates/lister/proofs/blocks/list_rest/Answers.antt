@@ -8,7 +8,7 @@ use Rattle.lister.proofs.blocks.list_rest.Goals as goal
 pub returns-then-not-p : goal.returns-then-not-p
 returns-then-not-p c =
     let s = c.args in
-    rest-left s.file.now s.block.now s.size s.l s.board.now s.report.now s.out.now c.requires (λ _ _. c.if-not-p.true)
+    rest-left s.file.now s.block.now s.size s.l s.board.now s.report.now s.out.now c.requires (λ _ _. not-true _ c.if-not-p.true)
 
 pub returns-then-size-block : goal.returns-then-size-block
 returns-then-size-block c =
@@ -28,4 +28,4 @@ list_part-ended-requires c =
 pub returns : goal.returns
 returns c =
     let s = c.args in
-    rest-listed s.file.now s.block.now s.size s.l s.board.now s.report.now s.out.now c.requires (c.if-not-p.false) (λ h. omega (arith, h, c.if-size-block.false, c.requires.sheet)) (omega (arith, c.if-out-p-lt-MOST_TEXT.false)) _ (part-rest s.block.now s.l.used) _ _ (search rules) _ c.list_part-ended.ensures
+    rest-listed s.file.now s.block.now s.size s.l s.board.now s.report.now s.out.now c.requires (not-false _ c.if-not-p.false) (λ h. omega (arith, h, c.if-size-block.false, c.requires.sheet)) (omega (arith, c.if-out-p-lt-MOST_TEXT.false)) _ (part-rest s.block.now s.l.used) _ _ (search rules) _ c.list_part-ended.ensures

@@ -37,7 +37,7 @@ pub loop-used-preserved : goal.loop-used-preserved
 loop-used-preserved c =
     let s = c.args in
     let l = c.loop-used in
-    (l.invariant.0, l.invariant.1, search rules, search rules, search rules, omega arith, omega (arith, c.list_part-p.ensures.put.within, c.if-most-p-lt-MOST_TEXT.false), sofar-more s.file.now s.block.now s.from s.board.now s.report.now s.out.now c.requires.0 l.p l.used l.board l.out l.report l.invariant.7 l.invariant.2 l.invariant.3 l.invariant.4 _ _ _ _ (search rules) (omega arith) (part_of s.block.now l.used s.size _ c.requires.1) (omega (arith, c.if-most-p-lt-MOST_TEXT.false)) c.list_part-p.ensures _ (omega arith) (c.if-not-p.false))
+    (l.invariant.0, l.invariant.1, search rules, search rules, search rules, omega arith, omega (arith, c.list_part-p.ensures.put.within, c.if-most-p-lt-MOST_TEXT.false), sofar-more s.file.now s.block.now s.from s.board.now s.report.now s.out.now c.requires.0 l.p l.used l.board l.out l.report l.invariant.7 l.invariant.2 l.invariant.3 l.invariant.4 _ _ _ _ (search rules) (omega arith) (part_of s.block.now l.used s.size _ c.requires.1) (omega (arith, c.if-most-p-lt-MOST_TEXT.false)) c.list_part-p.ensures _ (omega arith) (not-false _ c.if-not-p.false))
 
 pub returns : goal.returns
 returns c =

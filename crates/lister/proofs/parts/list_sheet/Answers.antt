@@ -21,7 +21,7 @@ returns-then-answer-ne0 c =
 pub put_month-at-requires : goal.put_month-at-requires
 put_month-at-requires c =
     let s = c.args in
-    may-list s.file.now _ _ _ _ c.section-stations.ensures c.section-reservoirs.ensures c.section-patterns.ensures c.section-rights.ensures s.sheet.now s.from s.board.now s.report.now s.out.now c.requires.0 c.requires.1 (length s.runoff.now) c.requires.2 _ c.decode.ensures _ _ _ c.run_sheet-answer.ensures (omega (arith, c.if-answer-ne0.false)) c.run_sheet-answer.auto.1.1.1.1.1.0 c.run_sheet-answer.auto.1.1.1.1.1.1.0
+    may-list s.file.now _ _ _ _ c.section-stations.ensures c.section-reservoirs.ensures c.section-patterns.ensures c.section-rights.ensures s.sheet.now s.from s.board.now s.report.now s.out.now c.requires.0 c.requires.1 (length s.runoff.now) c.requires.2 _ c.decode.ensures _ _ _ c.run_sheet-answer.ensures (omega (arith, c.if-answer-ne0.false)) c.run_sheet-answer.auto.board c.run_sheet-answer.auto.report
 
 pub overflow_add-result : goal.overflow_add-result
 overflow_add-result c = omega (arith, c.requires.0.counted)

@@ -1,0 +1,21 @@
+-- `yearly::open_year` meets its contract. Assumes nothing.
+use native.Mathlib.Omega.{arith}
+use Rattle.yearly.proofs.Opened.{year-refused, year-accepted}
+use borrow.Author.Rules.{rules}
+use Rattle.yearly.proofs.open_year.Goals as goal
+
+pub judge_year-answer-requires : goal.judge_year-answer-requires
+judge_year-answer-requires c = c.requires.in_order
+
+pub refuse-requires : goal.refuse-requires
+refuse-requires c = c.requires.room
+
+pub returns-then-answer-ne0 : goal.returns-then-answer-ne0
+returns-then-answer-ne0 c =
+    let s = c.args in
+    year-refused s.file.now s.book.now s.year s.from s.board.now s.out.now _ c.judge_year-answer.ensures (λ z. omega (arith, z, c.if-answer-ne0.true)) _ _ c.refuse.ensures
+
+pub returns : goal.returns
+returns c =
+    let s = c.args in
+    year-accepted s.file.now s.book.now s.year s.from s.board.now s.out.now _ c.judge_year-answer.ensures (omega arith) c.requires.going
