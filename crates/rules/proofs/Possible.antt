@@ -8,7 +8,7 @@ use native.Mathlib.Decide.{dec_lt}
 use lib.ListN.{length, length-replicate, length-map, get_or-map, get_or-eq_default}
 use Rattle.general.proofs.Lists.{get_d-zeros, all-at-place}
 use Rattle.general.proofs.Sums.{sum-map, sum_to-zero₂}
-use Rattle.rules.specs.Basin.{Reservoir, storage, Basin, no_reservoir, rows, reservoir_at}
+use Rattle.rules.specs.Basin.{Reservoir, Basin, no_reservoir, rows, reservoir_at}
 use Rattle.rules.specs.Month.{returns_at, MonthRun, month}
 use Rattle.rules.specs.Tally.{Call, refusal, Start, Tally, fresh_carried, fresh_start, begun, pending, arriving, next_run, accept, standing, after_judged, after_call, after_calls}
 use Rattle.rules.specs.Answers.{Answer}
