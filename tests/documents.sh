@@ -22,11 +22,11 @@ done < <(grep -E '^\| `[a-z]+/specs` \|' docs/TRUST.md)
 # `crate/specs/File`: `name`, `name`, ..
 while IFS='@' read -r file name; do
     [ -f "crates/$file.antt" ] || { say "no file $file"; continue; }
-    grep -qE "(^|[^A-Za-z0-9-])$name([^A-Za-z0-9-]|$)" "crates/$file.antt" || say "no $name in $file"
-done < <(tr '\n' ' ' <docs/RULES.md | grep -oE '`[a-z]+/specs/[A-Z][A-Za-z]*`:( *`[A-Za-z]+`,?)+' | grep -v '^`crate/' |
-    while read -r line; do
+    grep -qE "(^|[^A-Za-z0-9_-])$name([^A-Za-z0-9_-]|$)" "crates/$file.antt" || say "no $name in $file"
+done < <(cat docs/RULES.md docs/CHANGING.md | tr '\n' ' ' | grep -oE '`[a-z]+/specs/[A-Z][A-Za-z]*`:( *`[A-Za-z0-9_]+`,?)+' |
+    grep -v '^`crate/' | while read -r line; do
         file=$(cut -d'`' -f2 <<<"$line")
-        grep -oE '`[A-Za-z]+`' <<<"${line#*:}" | tr -d '`' | sed "s|^|$file@|"
+        grep -oE '`[A-Za-z0-9_]+`' <<<"${line#*:}" | tr -d '`' | sed "s|^|$file@|"
     done)
 
 exit "$wrong"
