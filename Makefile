@@ -2,9 +2,10 @@
 .PHONY: run test
 
 # The main job: the listings of the two sample rivers, after a line for each crate as it is proved.
+samples = ../../samples
 run:
-	@bash tools/progress.sh rt check riverrun
-	@cd samples && ../target/bin/riverrun october.basin.bin october.months.bin provo.basin.bin provo.months.bin
+	@cd crates/riverrun && bash ../../tools/progress.sh rt run -- \
+		$(samples)/october.basin.bin $(samples)/october.months.bin $(samples)/provo.basin.bin $(samples)/provo.months.bin
 
 # Everything: tests in Rust and C, proofs, must-fail edits, programs.
 test:

@@ -1,10 +1,10 @@
 #!/usr/bin/env bash
 # Times the program riverrun against the plain Rust program of the same job, on years of the largest basin: both in turn, medians and their ratio; instructions of both where valgrind is there.
-# Argument: the riverrun to time, by default target/bin/riverrun. BENCH_MONTHS and BENCH_RUNS: how much is run.
+# Argument: the riverrun to time, by default crates/riverrun/out/riverrun. BENCH_MONTHS and BENCH_RUNS: how much is run.
 set -euo pipefail
 cd "$(dirname "$0")/.."
 
-riverrun=$(realpath "${1:-target/bin/riverrun}")
+riverrun=$(realpath "${1:-crates/riverrun/out/riverrun}")
 months=${BENCH_MONTHS:-2400}
 runs=${BENCH_RUNS:-21}
 folder=$(mktemp -d)

@@ -5,7 +5,7 @@
 set -euo pipefail
 cd "$(dirname "$0")/.."
 
-[ -n "${RIVER_LIB_DIR:-}" ] || rt staticlib ledger
+[ -n "${RIVER_LIB_DIR:-}" ] || bash tools/ledger.sh
 RIVER_LIB_DIR=$(cd "${RIVER_LIB_DIR:-target/staticlib}" && pwd)
 export RIVER_LIB_DIR
 bash tests/native/examples.sh

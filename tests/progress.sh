@@ -1,6 +1,6 @@
 #!/usr/bin/env bash
-# What `make run` shows of the proofs: a line for a crate that is proved, everything of one that is not, and the same
-# end as the command's.
+# What `make run` shows of the proofs: a line for a crate that is proved, everything of one that is not, then what the
+# program writes, and the same end as the command's.
 set -euo pipefail
 cd "$(dirname "$0")/.."
 
@@ -13,37 +13,40 @@ expect() { # STATUS SAID SHOWN
     fi
 }
 
-expect 0 'note: of the prover
+expect 0 'rt: general: begins with what a check kept in another copy
+rt: chose --jobs 2 for general
+note: of the prover
 fn general::sum: proved
-rt: general proved (12 s)
-rt: rules proved (unchanged since it was last proved)
-rt: riverrun proved (1 s)
-rt: riverrun ran as nobody, and wrote what its file '\''stdout'\'' has (0 s)
-rt: ok, 3 crates proved' 'proved general (12 s)
-proved rules (unchanged)
-proved riverrun (1 s)
-3 crates proved'
+crate general: modules loaded=27 checked=6
+logic=proved functions=1 sum=dac8208d650f15bf logic-built=trusted
+rt: chose --jobs 2 for riverrun
+fn riverrun::main: proved
+logic=proved functions=1 axioms=3 logic-built=trusted
+linked target=x86_64-unknown-linux-gnu
+rt: running out/riverrun; to give it other input, run that file yourself
+MONTH PERMIT RIVER STORE WHY AT
+refused 1 0' 'proved general
+proved riverrun
+MONTH PERMIT RIVER STORE WHY AT
+refused 1 0'
 
-expect 1 'note: of the prover
-rt: general proved (12 s)
+expect 1 'rt: chose --jobs 2 for general
+note: of the prover
+logic=proved functions=1
+rt: chose --jobs 2 for rules
 note: it is not proved that this holds
-Proof.antt:1:2: error: expected another type
-fn rules::path: not proved
-rt: rules NOT PROVED (exit 1, 3 s)
-rt: FAILED: rules' 'proved general (12 s)
+fn rules::path: no proof
+logic=not-proved
+rt: the library rules did not build, so nothing above it was checked' 'proved general
 note: it is not proved that this holds
-Proof.antt:1:2: error: expected another type
-fn rules::path: not proved
-rt: rules NOT PROVED (exit 1, 3 s)
-rt: FAILED: rules'
+fn rules::path: no proof
+logic=not-proved
+rt: the library rules did not build, so nothing above it was checked'
 
-expect 1 'rt: riverrun proved (1 s)
-two files differ
-rt: riverrun proved, and its run FAILED (0 s)
-rt: FAILED: riverrun' 'proved riverrun (1 s)
-two files differ
-rt: riverrun proved, and its run FAILED (0 s)
-rt: FAILED: riverrun'
+expect 3 'rt: nothing has changed since the last proved build, by out/riverrun.stamp, so nothing is checked now
+rt: running out/riverrun; to give it other input, run that file yourself
+months.bin: No such file or directory' 'proved before, and nothing has changed since
+months.bin: No such file or directory'
 
 expect 2 'stopped in the middle' 'stopped in the middle'
 echo "progress: shown as wanted in 4 cases"

@@ -1,11 +1,11 @@
 #!/usr/bin/env bash
 # The program riveryear on a basin, a book and years of it. Each case has a folder of its own; compared are standard output, standard error and
-# how the program ended. The first difference is shown and fails the run. Argument: the riveryear to test, by default target/bin/riveryear.
+# how the program ended. The first difference is shown and fails the run. Argument: the riveryear to test, by default crates/riveryear/out/riveryear.
 set -euo pipefail
 cd "$(dirname "$0")/.."
 export LC_ALL=C # the system's reasons in the words that the cases have
 
-program=$(realpath "${1:-target/bin/riveryear}")
+program=$(realpath "${1:-crates/riveryear/out/riveryear}")
 samples=$PWD/samples
 crates=$PWD/crates
 parts=$PWD/tests/riverrun
