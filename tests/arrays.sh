@@ -7,7 +7,7 @@ cd "$(dirname "$0")/.."
 # The code of a file without what keeps no array: comments, contracts, texts and attributes; results, since what is
 # answered was made before; the types of lists that are lent; and indices.
 code() {
-    sed -E 's|//.*||; /^ *(ghost|requires|ensures|invariant|decreases) /d; s/b"[^"]*"//g; s/#\[[^]]*\]//g' "$1" |
+    sed -E 's|//.*||; /^ *(ghost|requires|ensures|invariant|decreases) /d; s/b"[^"]*"//g; s/#!?\[[^]]*\]//g' "$1" |
         sed -E "s/-> \[.*//; s/&('[a-z]+ )?(mut )?\[+(bool|[iu][0-9]+|usize)(; [0-9]+\])*\]?//g" |
         sed -E 's/([A-Za-z0-9_])\[[^]]*\]/\1/g'
 }
