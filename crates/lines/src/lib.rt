@@ -2,5 +2,5 @@
 #![tactic(auto)]
 
 pub mod frame;
-pub mod month;
+pub mod month_lines;
 pub mod words;

@@ -6,7 +6,7 @@ ghost use Rattle.lister.specs.Lister.{CanListBlock, CanListRest, BlockListed, Sh
 
 use crate::parts::list_part;
 use crate::{Listed, Progress};
-use lines::month::MOST_TEXT;
+use lines::month_lines::MOST_TEXT;
 use sections::{STATIONS, section};
 
 // The bytes of one sheet.

@@ -1,8 +1,8 @@
 // What a program that lists does between reading and writing: it opens a listing, and lists the months sheet by sheet.
 #![tactic(auto)]
 
+pub mod beginning;
 pub mod blocks;
-pub mod opening;
 pub mod parts;
 
 // How far a listing has come: the months listed, where its text ends in the lent list, and whether it goes on.

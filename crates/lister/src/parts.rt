@@ -10,7 +10,7 @@ ghost use Rattle.lister.specs.Lister.{CanStep, Stepped, Refused};
 use crate::Progress;
 use answers::{Answer, tell};
 use lines::frame::put_refusal;
-use lines::month::put_month;
+use lines::month_lines::put_month;
 use month::run::run_sheet;
 use rules::Verdict;
 use sections::{PATTERNS, RESERVOIRS, RIGHTS, STATIONS, section};

@@ -4,7 +4,7 @@ ghost use Rattle.lines.specs.Putting.{most_text};
 
 use files::send;
 use libc::STDOUT_FILENO;
-use lines::month::MOST_TEXT;
+use lines::month_lines::MOST_TEXT;
 
 // Writes a text. Where it can't be written the reason goes to standard error.
 pub fn write(text: &[u8]) -> bool {

@@ -2,7 +2,7 @@
 ghost use Rattle.std.specs.Prelude.{◌≤◌, length};
 
 use answers::Answer;
-use lines::month::MOST_TEXT;
+use lines::month_lines::MOST_TEXT;
 use lister::Progress;
 use lister::blocks::list_block;
 use lister::parts::refuse;

@@ -6,7 +6,7 @@ use crate::listed::{list_months, print_months};
 use crate::saying::{say_compared, say_recall, say_save};
 use check::same;
 use fresh::fresh;
-use lister::opening::open_listing;
+use lister::beginning::open_listing;
 use places::board::BOARD_LENGTH;
 use printing::output::write;
 

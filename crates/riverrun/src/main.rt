@@ -3,7 +3,7 @@
 ghost use Rattle.std.specs.Prelude.{◌<◌};
 
 use files::read_whole;
-use lister::opening::open_listing;
+use lister::beginning::open_listing;
 use places::board::BOARD_LENGTH;
 use printing::output::write;
 

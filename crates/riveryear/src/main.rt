@@ -5,7 +5,7 @@ ghost use Rattle.riveryear.specs.Going.{most_asked, CanListBook};
 
 use files::read_whole;
 use lister::Progress;
-use lister::opening::open_listing;
+use lister::beginning::open_listing;
 use places::board::BOARD_LENGTH;
 use places::report::MOST_REPORT;
 use printing::output::write;

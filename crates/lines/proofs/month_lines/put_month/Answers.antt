@@ -1,7 +1,7 @@
--- `lines::month::put_month` meets its contract: the rights' lines and the end line. Assumes nothing.
+-- `lines::month_lines::put_month` meets its contract: the rights' lines and the end line. Assumes nothing.
 use Rattle.lines.proofs.Texts.{month-put}
 use borrow.Author.Rules.{rules}
-use Rattle.lines.proofs.month.put_month.Goals as goal
+use Rattle.lines.proofs.month_lines.put_month.Goals as goal
 
 pub evaporation_sum-evaporation-requires : goal.evaporation_sum-evaporation-requires
 evaporation_sum-evaporation-requires c = rw c.rows_end.ensures (search rules)

@@ -7,7 +7,7 @@ use Rattle.records.specs.Records.{rights_of}
 use Rattle.listing.specs.Listing.{right_lines}
 use Rattle.lines.specs.Putting.{Put}
 use Rattle.lines.proofs.Texts.{lines_none, lines_more, lines-all}
-use Rattle.lines.proofs.month.put_rights.Goals as goal
+use Rattle.lines.proofs.month_lines.put_rights.Goals as goal
 
 pub loop-i-init : goal.loop-i-init
 loop-i-init c = let s = c.args in (omega arith, refl, lines_none s.month s.rights.now s.report.now s.out.now s.from)

@@ -1,7 +1,7 @@
--- `lines::month::put_end` meets its contract. Assumes nothing.
+-- `lines::month_lines::put_end` meets its contract. Assumes nothing.
 use borrow.Author.Rules.{rules}
 use Rattle.lines.proofs.Texts.{end-line-put}
-use Rattle.lines.proofs.month.put_end.Goals as goal
+use Rattle.lines.proofs.month_lines.put_end.Goals as goal
 
 pub returns : goal.returns
 returns c =

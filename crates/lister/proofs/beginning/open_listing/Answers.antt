@@ -1,8 +1,8 @@
--- `lister::opening::open_listing` meets its contract. Assumes nothing.
+-- `lister::beginning::open_listing` meets its contract. Assumes nothing.
 use native.Mathlib.Omega.{arith}
 use Rattle.lister.proofs.Begun.{refused-open, accepted-open}
 use borrow.Author.Rules.{rules}
-use Rattle.lister.proofs.opening.open_listing.Goals as goal
+use Rattle.lister.proofs.beginning.open_listing.Goals as goal
 
 pub returns-then-answer-ne0 : goal.returns-then-answer-ne0
 returns-then-answer-ne0 c =

@@ -1,8 +1,8 @@
--- `lines::month::put_right` meets its contract: two fields and the last four numbers. Assumes nothing.
+-- `lines::month_lines::put_right` meets its contract: two fields and the last four numbers. Assumes nothing.
 use mathlib.Core.Path.{◌∙◌}
 use borrow.Author.Rules.{rules}
 use Rattle.lines.proofs.Texts.{right-put}
-use Rattle.lines.proofs.month.put_right.Goals as goal
+use Rattle.lines.proofs.month_lines.put_right.Goals as goal
 
 pub returns : goal.returns
 returns c =

@@ -5,7 +5,7 @@ use borrow.Author.Rules.{rules}
 use lib.ListN.{get_or}
 use Rattle.general.specs.Sums.{sum_to}
 use Rattle.general.proofs.Loops.{total-none, total-more}
-use Rattle.lines.proofs.month.evaporation_sum.Goals as goal
+use Rattle.lines.proofs.month_lines.evaporation_sum.Goals as goal
 
 pub loop-v-init : goal.loop-v-init
 loop-v-init c = (search rules, search rules, total-none _)
