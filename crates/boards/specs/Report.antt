@@ -1,5 +1,5 @@
 -- The report of a month: a list of numbers of which a month writes the first, and keeps the rest (01, "The board and one month"; 02, No. 5).
-use Rattle.std.specs.Prelude.{cond, List, ◌++◌, ℕ, ◌+◌, eqb, length, get_or, drop, nat_abs}
+use Rattle.std.specs.Prelude.{cond, List, ◌++◌, ℕ, eqb, length, get_or, drop, nat_abs}
 use Rattle.general.specs.Tables.{tab}
 use Rattle.places.specs.Report.{Parts, part_at}
 use Rattle.rules.specs.Basin.{Basin, rows}

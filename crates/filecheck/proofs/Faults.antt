@@ -1,7 +1,7 @@
 -- Laws of the first at fault and of the verdicts that name it. Assumes nothing.
 use mathlib.Core.Path.{◌≡◌, refl, sym, ap, ◌∙◌}
 use mathlib.Core.Bool.{Bool, true, false, not}
-use mathlib.Core.List.{List, [], ◌∷◌}
+use mathlib.Core.List.{List}
 use mathlib.Core.Option.{Option, none, some}
 use Prim.Native.Nat.{ℕ, ◌+◌, ◌-◌, ◌≤◌, ◌<◌}
 use native.Mathlib.Nat.{sub-zero}
@@ -11,7 +11,7 @@ use Rattle.general.proofs.Tests.{both_of, lt_of}
 use Rattle.general.proofs.Search.{first-within, no-fault}
 use Rattle.general.proofs.Loops.{search-here, search-on, search-over}
 use Rattle.rules.specs.declared.Verdict.{Verdict}
-use Rattle.rules.specs.declared.Verdict.TheVariants.{Accepted, Layout, Station, Reservoir, Pattern, Right, Lists, Board, Runoff, Book, Year, Name, Full}
+use Rattle.rules.specs.declared.Verdict.TheVariants.{Accepted, Layout, Station, Reservoir, Pattern, Right}
 use Rattle.sections.specs.File.{layout_ok, section_of}
 use Rattle.records.specs.Records.{rows_of, reservoir_count, reservoir_record, pattern_count, right_count}
 use Rattle.filerules.specs.FileRules.{station_ok, reservoir_plain, reservoir_ok, pattern_ok, right_ok}

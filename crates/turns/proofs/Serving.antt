@@ -21,7 +21,7 @@ use Rattle.river.specs.declared.Seen.TheVariants as seen
 use Rattle.river.specs.Arrays.{seen_on}
 use Rattle.grants.specs.declared.grants.Grant as program
 use Rattle.grants.specs.declared.grants.Reason.{Reason as ReasonMade}
-use Rattle.grants.specs.declared.grants.Reason.TheVariants.{Met, Called, StorageOut}
+use Rattle.grants.specs.declared.grants.Reason.TheVariants.{Met, StorageOut}
 use Rattle.grants.specs.declared.grants.RiverPart.{RiverPart}
 use Rattle.grants.specs.Grants as grants
 use Rattle.grants.specs.Grants.{seen_by, RiverGave}

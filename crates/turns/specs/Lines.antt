@@ -3,7 +3,7 @@ use Rattle.std.specs.Prelude.{Bool, List, ◌≡◌, ℕ, suc, ◌+◌, ◌*◌,
 use Rattle.places.specs.Board.{month_at, due_at, BoardOk}
 use Rattle.places.specs.Report.{from_river_place, from_storage_place, reason_place, station_place, lines_end}
 use Rattle.rules.specs.Basin.{Basin, rows}
-use Rattle.rules.specs.Turn.{State, Grant, number_at, Turn}
+use Rattle.rules.specs.Turn.{State, number_at, Turn}
 use Rattle.rules.specs.Month.{turns, after_turns, grant_at, returns_at, deep_of, reason_number}
 use Rattle.records.specs.Records.{stations_of, rows_of, reservoir_count, right_count, right_of}
 use Rattle.grants.specs.declared.grants.Grant as program

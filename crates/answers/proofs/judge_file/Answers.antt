@@ -1,6 +1,5 @@
 -- `answers::judge_file` meets its contract. Assumes nothing.
 use mathlib.Core.Path.{◌∙◌}
-use borrow.Author.Rules.{rules}
 use Rattle.answers.proofs.Answers.{file-settled}
 use Rattle.answers.proofs.judge_file.Goals as goal
 

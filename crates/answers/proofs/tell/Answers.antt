@@ -1,5 +1,4 @@
 -- `answers::tell` meets its contract. Assumes nothing.
-use borrow.Author.Rules.{rules}
 use Rattle.answers.proofs.tell.Goals as goal
 
 pub returns : goal.returns

@@ -1,6 +1,5 @@
 -- `closing::end` meets its contract. Assumes nothing.
 use native.Mathlib.Omega.{arith}
-use borrow.Author.Rules.{rules}
 use lib.ListN.{length-set}
 use Rattle.closing.proofs.Rows.{ended_of}
 use Rattle.closing.proofs.end.Goals as goal

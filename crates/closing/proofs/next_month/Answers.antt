@@ -1,5 +1,4 @@
 -- `closing::next_month` meets its contract. Assumes nothing.
-use borrow.Author.Rules.{rules}
 use native.Mathlib.Omega.{arith}
 use borrow.Author.Tests.{eq-eqb, ne_eqb}
 use Rattle.closing.proofs.next_month.Goals as goal

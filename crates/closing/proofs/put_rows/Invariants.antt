@@ -1,10 +1,5 @@
-use mathlib.Core.Path.{subst}
-use Prim.Native.Nat.{ℕ, ◌-◌, ◌≤◌}
-use native.Mathlib.Omega.{arith}
-use borrow.Author.Rules.{rules}
-use lib.ListN.{get_or, length-set}
+use Prim.Native.Nat.{◌-◌, ◌≤◌}
 use Rattle.closing.specs.Closing.{RowsTold}
-use Rattle.closing.proofs.Rows.{told_none, told_at}
 use Rattle.closing.proofs.put_rows.Given as goal
 
 abbrev pub invariant-loop-w : goal.invariant-loop-w

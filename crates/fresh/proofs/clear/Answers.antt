@@ -1,9 +1,8 @@
-use mathlib.Core.Path.{◌≡◌, sym, ◌∙◌}
-use Prim.Native.Nat.{◌-◌, ◌≤◌}
+use mathlib.Core.Path.{sym, ◌∙◌}
 use native.Mathlib.Omega.{arith}
 use borrow.Author.Rules.{rules}
-use lib.ListN.{length, replicate, length-set}
-use Rattle.general.proofs.Lists.{Written, written_none, written-more, written_all, get_d-zeros}
+use lib.ListN.{replicate, length-set}
+use Rattle.general.proofs.Lists.{written_none, written-more, written_all, get_d-zeros}
 use Rattle.places.specs.Board.{board_length}
 use Rattle.fresh.proofs.clear.Goals as goal
 

@@ -1,10 +1,8 @@
 -- `fresh::clear` meets its contract. The loop's invariant: the places passed are 0. Assumes nothing.
-use mathlib.Core.Path.{◌≡◌, sym, ◌∙◌}
+use mathlib.Core.Path.{◌≡◌}
 use Prim.Native.Nat.{◌-◌, ◌≤◌}
-use native.Mathlib.Omega.{arith}
-use borrow.Author.Rules.{rules}
-use lib.ListN.{length, replicate, length-set}
-use Rattle.general.proofs.Lists.{Written, written_none, written-more, written_all, get_d-zeros}
+use lib.ListN.{length, replicate}
+use Rattle.general.proofs.Lists.{Written}
 use Rattle.places.specs.Board.{board_length}
 use Rattle.fresh.proofs.clear.Given as goal
 

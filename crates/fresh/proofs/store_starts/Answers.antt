@@ -1,11 +1,9 @@
-use mathlib.Core.Path.{◌≡◌, refl, ap, ◌∙◌, subst}
-use Prim.Native.Nat.{ℕ, ◌-◌, ◌≤◌}
+use mathlib.Core.Path.{refl, ap, ◌∙◌, subst}
+use Prim.Native.Nat.{ℕ}
 use native.Mathlib.Omega.{arith}
 use borrow.Author.Rules.{rules}
-use lib.ListN.{length, length-set}
-use Rattle.places.specs.Board.{board_length}
+use lib.ListN.{length-set}
 use Rattle.records.specs.declared.reservoirs.ReservoirRecord.{ReservoirRecord}
-use Rattle.records.specs.Records.{reservoir_count}
 use Rattle.fresh.specs.Fresh.{Started}
 use Rattle.fresh.proofs.Start.{start_none, start-more}
 use Rattle.fresh.proofs.store_starts.Goals as goal

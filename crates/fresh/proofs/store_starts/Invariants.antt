@@ -1,14 +1,10 @@
 -- `fresh::store_starts` meets its contract. The loop's invariant: the reservoirs passed hold their starting storages. Assumes nothing.
-use mathlib.Core.Path.{◌≡◌, refl, ap, ◌∙◌, subst}
-use Prim.Native.Nat.{ℕ, ◌-◌, ◌≤◌}
-use native.Mathlib.Omega.{arith}
-use borrow.Author.Rules.{rules}
-use lib.ListN.{length, length-set}
+use mathlib.Core.Path.{◌≡◌}
+use Prim.Native.Nat.{◌-◌, ◌≤◌}
+use lib.ListN.{length}
 use Rattle.places.specs.Board.{board_length}
-use Rattle.records.specs.declared.reservoirs.ReservoirRecord.{ReservoirRecord}
 use Rattle.records.specs.Records.{reservoir_count}
 use Rattle.fresh.specs.Fresh.{Started}
-use Rattle.fresh.proofs.Start.{start_none, start-more}
 use Rattle.fresh.proofs.store_starts.Given as goal
 
 abbrev pub invariant-loop-v : goal.invariant-loop-v

@@ -1,5 +1,4 @@
 -- `month::month` meets its contract. Assumes nothing.
-use borrow.Author.Rules.{rules}
 use native.Mathlib.Omega.{arith}
 use Rattle.records.specs.Records.{basin_of}
 use Rattle.answers.proofs.Answers.{lent-clear}

@@ -1,7 +1,6 @@
 -- `numbers::bit_of` meets its contract. Assumes nothing.
 use Rattle.general.specs.Tests.{bit}
 use mathlib.Core.Path.{refl}
-use borrow.Author.Rules.{rules}
 use Rattle.numbers.proofs.bit_of.Goals as goal
 
 pub returns : goal.returns

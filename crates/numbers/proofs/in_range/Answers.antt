@@ -1,5 +1,4 @@
 -- `numbers::in_range` meets its contract. Assumes nothing.
-use borrow.Author.Rules.{rules}
 use Rattle.general.specs.Tests.{between}
 use Rattle.numbers.proofs.in_range.Goals as goal
 

@@ -1,7 +1,6 @@
 -- `numbers::power` meets its contract. Assumes nothing.
 use Prim.Native.Nat.{◌^◌}
 use native.Mathlib.Nat.{one-mul, mod-eq_of_lt}
-use borrow.Author.Rules.{rules}
 use Rattle.general.proofs.Bits.{power-fits}
 use Rattle.numbers.proofs.power.Goals as goal
 

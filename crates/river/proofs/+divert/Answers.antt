@@ -1,8 +1,7 @@
 -- `river::divert` meets its contract. Assumes nothing.
-use Prim.Native.Nat.{ℕ, ◌-◌, ◌<◌}
+use Prim.Native.Nat.{◌-◌}
 use mathlib.Core.Path.{sym, ◌∙◌}
 use native.Mathlib.Omega.{arith}
-use borrow.Author.Rules.{rules}
 use lib.ListN.{get_or}
 use Rattle.records.proofs.Table.{walk-on}
 use Rattle.river.proofs.Walks.{enough-self, next-divert, divert-row, divert-end}

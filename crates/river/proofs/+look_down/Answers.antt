@@ -1,8 +1,6 @@
 -- `river::look_down` meets its contract. Assumes nothing.
-use Prim.Native.Nat.{ℕ, ◌-◌, ◌<◌}
 use mathlib.Core.Path.{sym, ◌∙◌}
 use native.Mathlib.Omega.{arith}
-use borrow.Author.Rules.{rules}
 use Rattle.records.proofs.Table.{walk-on}
 use Rattle.river.specs.Arrays.{seen_as}
 use Rattle.river.proofs.Walks.{next-look, look-called, look-end, look-on}

@@ -1,8 +1,7 @@
 -- `river::put_back` meets its contract. Assumes nothing.
-use Prim.Native.Nat.{ℕ, ◌+◌, ◌-◌, ◌<◌}
+use Prim.Native.Nat.{◌+◌}
 use mathlib.Core.Path.{sym, ◌∙◌}
 use native.Mathlib.Omega.{arith}
-use borrow.Author.Rules.{rules}
 use lib.ListN.{get_or}
 use Rattle.records.proofs.Table.{walk-on}
 use Rattle.river.proofs.Walks.{room-self, next-return, return-row, return-end}

@@ -1,9 +1,8 @@
 -- `river::release` meets its contract. Assumes nothing.
-use Prim.Native.Nat.{ℕ, ◌+◌, ◌-◌, ◌<◌}
+use Prim.Native.Nat.{◌+◌}
 use mathlib.Core.Path.{sym, ◌∙◌}
 use mathlib.Core.List.{[]}
 use native.Mathlib.Omega.{arith}
-use borrow.Author.Rules.{rules}
 use lib.ListN.{get_or}
 use Rattle.records.proofs.Table.{walk-on}
 use Rattle.river.proofs.Walks.{room-self, next-release, release-row, release-end, release-stop}

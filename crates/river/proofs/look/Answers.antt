@@ -1,6 +1,5 @@
 -- `river::look` meets its contract. Assumes nothing.
 use mathlib.Core.Path.{◌∙◌}
-use borrow.Author.Rules.{rules}
 use Rattle.river.proofs.Walks.{seen_low, seen-called}
 use Rattle.river.proofs.look.Goals as goal
 

@@ -1,5 +1,4 @@
 -- `river::lower` meets its contract. Assumes nothing.
-use borrow.Author.Rules.{rules}
 use borrow.Author.Tests.{lt-ltb, le-ltb}
 use Rattle.river.proofs.lower.Goals as goal
 

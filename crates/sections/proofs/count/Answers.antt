@@ -1,5 +1,4 @@
 -- `sections::count` meets its contract. Assumes nothing.
-use borrow.Author.Rules.{rules}
 use Rattle.sections.specs.File.{count_of}
 use Rattle.sections.proofs.count.Goals as goal
 

@@ -3,7 +3,6 @@ use mathlib.Core.List.{List}
 use mathlib.Core.Path.{◌≡◌}
 use Prim.Native.Nat.{ℕ, ◌+◌, ◌*◌}
 use native.Mathlib.Omega.{arith}
-use borrow.Author.Rules.{rules}
 use Rattle.sections.specs.File.{width_of, offset_of, count_of, end_of}
 use Rattle.sections.proofs.Parts.{size-most}
 use Rattle.sections.proofs.end.Goals as goal

@@ -1,7 +1,6 @@
 -- `sections::layout_ok` meets its contract. Assumes nothing.
 use mathlib.Core.Bool.{Bool}
 use mathlib.Core.Path.{sym, ap, ◌∙◌}
-use borrow.Author.Rules.{rules}
 use Rattle.general.specs.Tests.{◌and◌}
 use Rattle.sections.specs.File.{counts_ok}
 use Rattle.sections.proofs.Parts.{layout-short, layout-long}

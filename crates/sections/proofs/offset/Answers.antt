@@ -1,6 +1,5 @@
 -- `sections::offset` meets its contract. Assumes nothing.
 use mathlib.Core.Path.{◌∙◌}
-use borrow.Author.Rules.{rules}
 use Rattle.sections.specs.File.{offset_of}
 use Rattle.sections.proofs.offset.Goals as goal
 

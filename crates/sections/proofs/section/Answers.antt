@@ -1,7 +1,6 @@
 -- `sections::section` meets its contract. The laws of the layout say what the part is, case by case. Assumes nothing.
 use mathlib.Core.Path.{sym}
 use native.Mathlib.Omega.{arith}
-use borrow.Author.Rules.{rules}
 use Rattle.sections.proofs.Parts.{section-short, section-over, section-part}
 use Rattle.sections.proofs.section.Goals as goal
 

@@ -1,9 +1,7 @@
-use mathlib.Core.Path.{◌≡◌, refl, sym, ◌∙◌}
-use Prim.Native.Nat.{◌-◌, ◌≤◌}
+use mathlib.Core.Path.{refl, sym, ◌∙◌}
 use native.Mathlib.Omega.{arith}
-use borrow.Author.Rules.{rules}
 use lib.ListN.{length, length-set}
-use Rattle.general.proofs.Lists.{Written, written_none, written-more, written_all}
+use Rattle.general.proofs.Lists.{written_none, written-more, written_all}
 use Rattle.sheets.specs.Sheets.{sheet_of}
 use Rattle.sheets.proofs.Sheets.{sheet-length, sheet-place}
 use Rattle.sheets.proofs.decode.Goals as goal

@@ -1,11 +1,8 @@
-use mathlib.Core.Path.{◌≡◌, refl, sym, ◌∙◌}
+use mathlib.Core.Path.{◌≡◌}
 use Prim.Native.Nat.{◌-◌, ◌≤◌}
-use native.Mathlib.Omega.{arith}
-use borrow.Author.Rules.{rules}
-use lib.ListN.{length, length-set}
-use Rattle.general.proofs.Lists.{Written, written_none, written-more, written_all}
+use lib.ListN.{length}
+use Rattle.general.proofs.Lists.{Written}
 use Rattle.sheets.specs.Sheets.{sheet_of}
-use Rattle.sheets.proofs.Sheets.{sheet-length, sheet-place}
 use Rattle.sheets.proofs.decode.Given as goal
 
 abbrev pub invariant-loop-row : goal.invariant-loop-row

@@ -1,8 +1,6 @@
 -- `stock::judge_board` meets its contract, refusal by refusal. Assumes nothing.
 use mathlib.Core.Path.{sym, ◌∙◌}
 use native.Mathlib.Omega.{arith}
-use borrow.Author.Tests.{not-true, not-false}
-use borrow.Author.Rules.{rules}
 use Rattle.boards.proofs.Bodies.{sized, possible-told}
 use Rattle.stock.proofs.Answers.{stock-file, stock-unfit, stock-impossible, stock-possible}
 use Rattle.answers.proofs.Answers.{accepted-of}

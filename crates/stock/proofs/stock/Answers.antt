@@ -3,7 +3,6 @@ use mathlib.Core.Path.{ap, ◌∙◌}
 use mathlib.Core.List.{List}
 use Prim.Native.Nat.{ℕ, suc, ◌≤◌}
 use native.Mathlib.Omega.{arith}
-use borrow.Author.Rules.{rules}
 use Rattle.general.specs.Sums.{sum_to}
 use Rattle.sections.specs.File.{section_of}
 use Rattle.records.specs.Records.{rows_of, reservoir_count, basin_of}

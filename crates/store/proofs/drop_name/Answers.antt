@@ -4,7 +4,6 @@ use native.Mathlib.Omega.{arith}
 use Rattle.entries.specs.Entries.{first_named}
 use Rattle.entries.proofs.LookUp.{looked-none, looked-at, named-within}
 use Rattle.store.proofs.Answers.{clear_of, drop-refused, drop-missing, drop-done}
-use borrow.Author.Rules.{rules}
 use Rattle.store.proofs.drop_name.Goals as goal
 
 pub returns-then-on_name-ne0 : goal.returns-then-on_name-ne0

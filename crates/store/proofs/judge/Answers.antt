@@ -4,8 +4,6 @@ use native.Mathlib.Omega.{arith}
 use Rattle.general.specs.Tests.{◌and◌}
 use Rattle.store.specs.Calls.{store_fits}
 use Rattle.store.proofs.Answers.{other-store, other_name, other-list, all-fit, name-unfit, name-empty, name-good}
-use borrow.Author.Tests.{not-true, not-false}
-use borrow.Author.Rules.{rules}
 use Rattle.store.proofs.judge.Goals as goal
 
 pub returns-then-store-ne-STORE_LENGTH : goal.returns-then-store-ne-STORE_LENGTH

@@ -5,7 +5,6 @@ use Rattle.boards.specs.Board.{board_fits}
 use Rattle.entries.specs.Entries.{first_named}
 use Rattle.entries.proofs.LookUp.{looked-none, looked-at, named-within}
 use Rattle.store.proofs.Answers.{clear_of, recall-refused, recall-missing, recall-done}
-use borrow.Author.Rules.{rules}
 use Rattle.store.proofs.recall.Goals as goal
 
 pub returns-then-on_name-ne0 : goal.returns-then-on_name-ne0

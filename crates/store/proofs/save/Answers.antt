@@ -6,7 +6,6 @@ use Rattle.boards.specs.Board.{board_fits}
 use Rattle.entries.specs.Entries.{place_for}
 use Rattle.entries.proofs.LookUp.{looked-none, looked-at, place-within}
 use Rattle.store.proofs.Answers.{clear_of, save-refused, save-wanting, save-done}
-use borrow.Author.Rules.{rules}
 use Rattle.store.proofs.save.Goals as goal
 
 pub returns-then-on_name-ne0 : goal.returns-then-on_name-ne0

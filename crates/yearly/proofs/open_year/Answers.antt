@@ -1,7 +1,6 @@
 -- `yearly::open_year` meets its contract. Assumes nothing.
 use native.Mathlib.Omega.{arith}
 use Rattle.yearly.proofs.Opened.{year-refused, year-accepted}
-use borrow.Author.Rules.{rules}
 use Rattle.yearly.proofs.open_year.Goals as goal
 
 pub judge_year-answer-requires : goal.judge_year-answer-requires

@@ -3,7 +3,6 @@ use native.Mathlib.Omega.{arith}
 use Rattle.records.specs.Records.{basin_of}
 use Rattle.boards.proofs.Bounds.{month-most}
 use Rattle.yearly.proofs.Opened.{first_small, left-none, left-some}
-use borrow.Author.Rules.{rules}
 use Rattle.yearly.proofs.sheets_left.Goals as goal
 
 pub bounds-board-0 : goal.bounds-board-0

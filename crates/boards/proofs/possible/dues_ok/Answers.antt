@@ -3,7 +3,6 @@ use mathlib.Core.Bool.{Bool}
 use mathlib.Core.List.{List}
 use mathlib.Core.Path.{◌≡◌}
 use Prim.Native.Nat.{ℕ, ◌-◌, ◌^◌, ◌≤◌}
-use borrow.Author.Rules.{rules}
 use lib.Dec.{ltb}
 use Rattle.general.specs.Tests.{◌and◌, all_to}
 use Rattle.places.specs.Board.{dues_of, words_from}

@@ -1,11 +1,7 @@
 -- `boards::possible::each_row_ok` meets its contract. The loop's invariant: all rows passed are possible. Assumes nothing.
-use mathlib.Core.Bool.{Bool}
-use mathlib.Core.Path.{◌≡◌, ap, ◌∙◌}
-use Prim.Native.Nat.{ℕ, ◌-◌, ◌≤◌}
-use native.Mathlib.Omega.{arith}
-use borrow.Author.Rules.{rules}
-use Rattle.general.proofs.Loops.{all_none, all_more}
-use Rattle.general.specs.Tests.{◌and◌, all_to}
+use mathlib.Core.Path.{◌≡◌}
+use Prim.Native.Nat.{◌-◌, ◌≤◌}
+use Rattle.general.specs.Tests.{all_to}
 use Rattle.boards.specs.Bodies.{row_ok}
 use Rattle.boards.proofs.possible.each_row_ok.Given as goal
 

@@ -1,14 +1,10 @@
-use mathlib.Core.Path.{◌≡◌, ap, ◌∙◌}
-use mathlib.Core.Bool.{Bool}
-use mathlib.Core.List.{List}
-use Prim.Native.Nat.{ℕ, ◌-◌, ◌≤◌}
+use mathlib.Core.Path.{ap, ◌∙◌}
+use Prim.Native.Nat.{ℕ}
 use native.Mathlib.Omega.{arith}
 use borrow.Author.Rules.{rules}
-use lib.Dec.{leb}
 use Rattle.general.proofs.Loops.{all_none, all_more}
 use Rattle.general.specs.Tests.{all_to}
-use Rattle.places.specs.Board.{taken_at}
-use Rattle.boards.specs.Bodies.{taken_most, held_ok}
+use Rattle.boards.specs.Bodies.{held_ok}
 use Rattle.boards.proofs.possible.held_ok.Invariants.{low}
 use Rattle.boards.proofs.possible.held_ok.Goals as goal
 

@@ -1,15 +1,12 @@
 -- `boards::possible::held_ok` meets its contract. The loop's invariant: all that the rights passed took is possible. Assumes nothing.
-use mathlib.Core.Path.{◌≡◌, ap, ◌∙◌}
+use mathlib.Core.Path.{◌≡◌}
 use mathlib.Core.Bool.{Bool}
 use mathlib.Core.List.{List}
 use Prim.Native.Nat.{ℕ, ◌-◌, ◌≤◌}
-use native.Mathlib.Omega.{arith}
-use borrow.Author.Rules.{rules}
 use lib.Dec.{leb}
-use Rattle.general.proofs.Loops.{all_none, all_more}
 use Rattle.general.specs.Tests.{all_to}
 use Rattle.places.specs.Board.{taken_at}
-use Rattle.boards.specs.Bodies.{taken_most, held_ok}
+use Rattle.boards.specs.Bodies.{taken_most}
 use Rattle.boards.proofs.possible.held_ok.Given as goal
 
 -- what right i took is within its limit

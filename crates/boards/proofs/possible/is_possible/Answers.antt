@@ -3,7 +3,6 @@ use mathlib.Core.Bool.{Bool}
 use mathlib.Core.List.{List}
 use mathlib.Core.Path.{◌≡◌, ap, ◌∙◌}
 use Prim.Native.Nat.{ℕ, ◌^◌}
-use borrow.Author.Rules.{rules}
 use lib.Dec.{ltb}
 use Rattle.general.specs.Tests.{◌and◌}
 use Rattle.records.specs.Records.{rows_of, reservoir_count, right_count, bodies}

@@ -1,20 +1,10 @@
 -- `boards::possible::joined` meets its contract. The loop's invariant: what is joined has k bits if the numbers passed have, from the beginning and from
 -- the middle on. Assumes nothing.
-use mathlib.Core.Bool.{Bool, true, false}
 use mathlib.Core.List.{List}
-use mathlib.Core.Path.{◌≡◌, refl, sym, ap, ◌∙◌}
+use mathlib.Core.Path.{◌≡◌}
 use Prim.Native.Nat.{ℕ, ◌+◌, ◌-◌, ◌/◌, ◌^◌, ◌≤◌}
-use native.Mathlib.Omega.{arith}
-use borrow.Author.Rules.{rules}
-use lib.Bits.{bit_or}
 use lib.Dec.{ltb}
-use lib.ListN.{get_or}
-use lib.Pow.{pow_pos}
-use Rattle.general.proofs.Bits.{or-bits}
-use Rattle.general.proofs.Loops.{all_none, all_more}
-use Rattle.general.proofs.Search.{all-twice}
-use Rattle.general.proofs.Tests.{ltb_yes, and-of}
-use Rattle.general.specs.Tests.{◌and◌, all_to}
+use Rattle.general.specs.Tests.{◌and◌}
 use Rattle.boards.specs.Bodies.{have_bits}
 use Rattle.boards.proofs.possible.joined.Given as goal
 

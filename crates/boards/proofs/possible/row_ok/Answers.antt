@@ -1,7 +1,7 @@
 use mathlib.Core.Path.{◌≡◌, ap, ◌∙◌}
 use mathlib.Core.Bool.{Bool}
 use mathlib.Core.List.{List}
-use Prim.Native.Nat.{ℕ, suc, ◌-◌, ◌≤◌}
+use Prim.Native.Nat.{ℕ, suc}
 use native.Mathlib.Omega.{arith}
 use borrow.Author.Rules.{rules}
 use lib.Dec.{leb}
@@ -9,7 +9,7 @@ use lib.ListN.{get_or}
 use Rattle.general.proofs.Loops.{all_none, all_more}
 use Rattle.general.specs.Tests.{◌and◌, all_to}
 use Rattle.rules.specs.Theorems.{most_due}
-use Rattle.places.specs.Board.{due_place, due_at}
+use Rattle.places.specs.Board.{due_place}
 use Rattle.boards.specs.Bodies.{row_ok}
 use Rattle.boards.proofs.possible.row_ok.Invariants.{low}
 use Rattle.boards.proofs.possible.row_ok.Goals as goal

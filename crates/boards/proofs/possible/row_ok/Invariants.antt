@@ -1,17 +1,12 @@
 -- `boards::possible::row_ok` meets its contract. The loop's invariant: all dues passed are possible. Assumes nothing.
-use mathlib.Core.Path.{◌≡◌, ap, ◌∙◌}
+use mathlib.Core.Path.{◌≡◌}
 use mathlib.Core.Bool.{Bool}
 use mathlib.Core.List.{List}
 use Prim.Native.Nat.{ℕ, suc, ◌-◌, ◌≤◌}
-use native.Mathlib.Omega.{arith}
-use borrow.Author.Rules.{rules}
 use lib.Dec.{leb}
-use lib.ListN.{get_or}
-use Rattle.general.proofs.Loops.{all_none, all_more}
-use Rattle.general.specs.Tests.{◌and◌, all_to}
+use Rattle.general.specs.Tests.{all_to}
 use Rattle.rules.specs.Theorems.{most_due}
-use Rattle.places.specs.Board.{due_place, due_at}
-use Rattle.boards.specs.Bodies.{row_ok}
+use Rattle.places.specs.Board.{due_at}
 use Rattle.boards.proofs.possible.row_ok.Given as goal
 
 -- what is due at k is within what the past months can send

@@ -3,7 +3,6 @@ use mathlib.Core.Bool.{true}
 use mathlib.Core.List.{List}
 use mathlib.Core.Path.{◌≡◌, sym, ap, ◌∙◌}
 use Prim.Native.Nat.{ℕ, ◌-◌, ◌^◌, ◌<◌}
-use borrow.Author.Rules.{rules}
 use lib.Dec.{ltb}
 use Rattle.general.proofs.Tests.{ltb_yes}
 use Rattle.general.specs.Tests.{all_to}

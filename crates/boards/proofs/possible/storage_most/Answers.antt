@@ -1,7 +1,6 @@
 -- `boards::possible::storage_most` meets its contract. Assumes nothing.
 use mathlib.Core.Path.{◌∙◌}
 use native.Mathlib.Omega.{arith}
-use borrow.Author.Rules.{rules}
 use Rattle.boards.proofs.Bodies.{no-storage, some-storage}
 use Rattle.boards.proofs.possible.storage_most.Goals as goal
 

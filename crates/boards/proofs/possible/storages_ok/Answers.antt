@@ -1,14 +1,14 @@
 use mathlib.Core.Path.{◌≡◌, ap, ◌∙◌}
 use mathlib.Core.Bool.{Bool}
 use mathlib.Core.List.{List}
-use Prim.Native.Nat.{ℕ, ◌-◌, ◌≤◌}
+use Prim.Native.Nat.{ℕ}
 use native.Mathlib.Omega.{arith}
 use borrow.Author.Rules.{rules}
 use lib.Dec.{leb}
 use lib.ListN.{get_or}
 use Rattle.general.proofs.Loops.{all_none, all_more}
 use Rattle.general.specs.Tests.{◌and◌, all_to}
-use Rattle.places.specs.Board.{storage_place, storage_at}
+use Rattle.places.specs.Board.{storage_place}
 use Rattle.boards.specs.Bodies.{storage_most, storages_ok}
 use Rattle.boards.proofs.possible.storages_ok.Invariants.{low}
 use Rattle.boards.proofs.possible.storages_ok.Goals as goal

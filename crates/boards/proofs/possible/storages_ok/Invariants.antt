@@ -1,16 +1,12 @@
 -- `boards::possible::storages_ok` meets its contract. The loop's invariant: all storages passed are possible. Assumes nothing.
-use mathlib.Core.Path.{◌≡◌, ap, ◌∙◌}
+use mathlib.Core.Path.{◌≡◌}
 use mathlib.Core.Bool.{Bool}
 use mathlib.Core.List.{List}
 use Prim.Native.Nat.{ℕ, ◌-◌, ◌≤◌}
-use native.Mathlib.Omega.{arith}
-use borrow.Author.Rules.{rules}
 use lib.Dec.{leb}
-use lib.ListN.{get_or}
-use Rattle.general.proofs.Loops.{all_none, all_more}
-use Rattle.general.specs.Tests.{◌and◌, all_to}
-use Rattle.places.specs.Board.{storage_place, storage_at}
-use Rattle.boards.specs.Bodies.{storage_most, storages_ok}
+use Rattle.general.specs.Tests.{all_to}
+use Rattle.places.specs.Board.{storage_at}
+use Rattle.boards.specs.Bodies.{storage_most}
 use Rattle.boards.proofs.possible.storages_ok.Given as goal
 
 -- storage v is within its reservoir

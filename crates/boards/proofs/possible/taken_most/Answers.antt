@@ -1,7 +1,6 @@
 -- `boards::possible::taken_most` meets its contract. Assumes nothing.
 use mathlib.Core.Path.{◌∙◌}
 use native.Mathlib.Omega.{arith}
-use borrow.Author.Rules.{rules}
 use Rattle.boards.proofs.Bodies.{no-taken, some-taken}
 use Rattle.boards.proofs.possible.taken_most.Goals as goal
 

@@ -1,10 +1,7 @@
 -- `boards::sums::due_sum` meets its contract. The loop's invariant: the sum is that of the rows passed, and at most 30,976,000,000,000 for each. Assumes nothing.
-use mathlib.Core.Path.{◌≡◌, ap, ◌∙◌}
+use mathlib.Core.Path.{◌≡◌}
 use mathlib.Core.List.{List}
-use Prim.Native.Nat.{ℕ, suc, ◌+◌, ◌-◌, ◌*◌, ◌≤◌}
-use native.Mathlib.Omega.{arith}
-use borrow.Author.Rules.{rules}
-use Rattle.general.proofs.Loops.{total-none, total-more}
+use Prim.Native.Nat.{ℕ, suc, ◌-◌, ◌*◌, ◌≤◌}
 use Rattle.general.specs.Sums.{sum_to}
 use Rattle.places.specs.Board.{due_at}
 use Rattle.boards.proofs.sums.due_sum.Given as goal

@@ -1,11 +1,9 @@
-use mathlib.Core.Path.{◌≡◌, ap, ◌∙◌}
-use mathlib.Core.List.{List}
-use Prim.Native.Nat.{ℕ, suc, ◌+◌, ◌-◌, ◌*◌, ◌≤◌}
+use mathlib.Core.Path.{ap, ◌∙◌}
+use Prim.Native.Nat.{ℕ, ◌+◌}
 use native.Mathlib.Omega.{arith}
 use borrow.Author.Rules.{rules}
 use Rattle.general.proofs.Loops.{total-none, total-more}
 use Rattle.general.specs.Sums.{sum_to}
-use Rattle.places.specs.Board.{due_at}
 use Rattle.places.proofs.BoardPlaces.{place_read}
 use Rattle.boards.proofs.sums.row_due.Invariants.{due}
 use Rattle.boards.proofs.sums.row_due.Goals as goal

@@ -1,13 +1,9 @@
 -- `boards::sums::row_due` meets its contract. The loop's invariant: the sum is that of the dues passed, and at most 2,816,000,000,000 for each. Assumes nothing.
-use mathlib.Core.Path.{◌≡◌, ap, ◌∙◌}
+use mathlib.Core.Path.{◌≡◌}
 use mathlib.Core.List.{List}
-use Prim.Native.Nat.{ℕ, suc, ◌+◌, ◌-◌, ◌*◌, ◌≤◌}
-use native.Mathlib.Omega.{arith}
-use borrow.Author.Rules.{rules}
-use Rattle.general.proofs.Loops.{total-none, total-more}
+use Prim.Native.Nat.{ℕ, suc, ◌-◌, ◌*◌, ◌≤◌}
 use Rattle.general.specs.Sums.{sum_to}
 use Rattle.places.specs.Board.{due_at}
-use Rattle.places.proofs.BoardPlaces.{place_read}
 use Rattle.boards.proofs.sums.row_due.Given as goal
 
 abbrev pub due : List ℕ → ℕ → ℕ → ℕ

@@ -1,12 +1,8 @@
 -- `boards::sums::storage_sum` meets its contract. The loop's invariant: the sum is that of the storages passed, and at most 2,000,000,000 for each. Assumes nothing.
-use mathlib.Core.Path.{◌≡◌, ap, ◌∙◌}
-use Prim.Native.Nat.{ℕ, ◌+◌, ◌-◌, ◌*◌, ◌≤◌}
-use native.Mathlib.Omega.{arith}
-use borrow.Author.Rules.{rules}
-use Rattle.general.proofs.Loops.{total-none, total-more}
+use mathlib.Core.Path.{◌≡◌}
+use Prim.Native.Nat.{◌-◌, ◌*◌, ◌≤◌}
 use Rattle.general.specs.Sums.{sum_to}
 use Rattle.places.specs.Board.{storage_at}
-use Rattle.places.proofs.BoardPlaces.{place_read}
 use Rattle.boards.proofs.sums.storage_sum.Given as goal
 
 abbrev pub invariant-loop-v : goal.invariant-loop-v

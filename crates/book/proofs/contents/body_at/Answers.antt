@@ -1,7 +1,6 @@
 -- `book::contents::body_at` meets its contract. Assumes nothing.
 use native.Mathlib.Omega.{arith}
 use Rattle.book.proofs.Bodies.{within, part-is}
-use borrow.Author.Rules.{rules}
 use Rattle.book.proofs.contents.body_at.Goals as goal
 
 pub offset_at-start-requires : goal.offset_at-start-requires

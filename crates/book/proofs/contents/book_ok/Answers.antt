@@ -1,7 +1,6 @@
 -- `book::contents::book_ok` meets its contract. Assumes nothing.
 use native.Mathlib.Omega.{arith}
 use Rattle.book.proofs.Bodies.{packed-is, book-short, book-many, book-ends, book-all}
-use borrow.Author.Rules.{rules}
 use Rattle.book.proofs.contents.book_ok.Goals as goal
 
 pub returns-then-book-lt4 : goal.returns-then-book-lt4

@@ -1,12 +1,8 @@
 -- `book::contents::entries_ok` meets its contract. The loop's invariant: all entries passed are good. Assumes nothing.
-use mathlib.Core.Path.{◌≡◌, ap, ◌∙◌}
-use mathlib.Core.Bool.{Bool}
-use Prim.Native.Nat.{ℕ, ◌-◌, ◌≤◌}
-use native.Mathlib.Omega.{arith}
-use Rattle.general.specs.Tests.{◌and◌, all_to}
-use Rattle.general.proofs.Loops.{all_none, all_more}
+use mathlib.Core.Path.{◌≡◌}
+use Prim.Native.Nat.{◌-◌, ◌≤◌}
+use Rattle.general.specs.Tests.{all_to}
 use Rattle.book.specs.Book.{entry_ok}
-use borrow.Author.Rules.{rules}
 use Rattle.book.proofs.contents.entries_ok.Given as goal
 
 abbrev pub invariant-loop-i : goal.invariant-loop-i

@@ -1,6 +1,5 @@
 -- `book::contents::entry_ok` meets its contract. Assumes nothing.
 use Rattle.book.proofs.Bodies.{entry_read}
-use borrow.Author.Rules.{rules}
 use Rattle.book.proofs.contents.entry_ok.Goals as goal
 
 pub returns : goal.returns

@@ -1,6 +1,5 @@
 -- `book::contents::is_rising` meets its contract. Assumes nothing.
 use Rattle.book.proofs.Bodies.{rises-first, rises-above}
-use borrow.Author.Rules.{rules}
 use Rattle.book.proofs.contents.is_rising.Goals as goal
 
 pub returns-then-i-eq0 : goal.returns-then-i-eq0

@@ -1,9 +1,6 @@
-use mathlib.Core.Path.{◌≡◌, ◌∙◌}
-use Prim.Native.Nat.{◌-◌, ◌≤◌}
+use mathlib.Core.Path.{◌∙◌}
 use native.Mathlib.Omega.{arith}
-use Rattle.book.specs.Book.{year_count, listed_body}
-use Rattle.book.proofs.Bodies.{laid, within, body_from, from_start, from-here, from_next, from_end}
-use borrow.Author.Rules.{rules}
+use Rattle.book.proofs.Bodies.{laid, within, from_start, from-here, from_next, from_end}
 use Rattle.book.proofs.contents.listed_body.Goals as goal
 
 pub year_count-count-requires : goal.year_count-count-requires

@@ -1,10 +1,8 @@
 -- `book::contents::listed_body` meets its contract. The loop's invariant: the entries not yet looked at give the body. Assumes nothing.
-use mathlib.Core.Path.{◌≡◌, ◌∙◌}
+use mathlib.Core.Path.{◌≡◌}
 use Prim.Native.Nat.{◌-◌, ◌≤◌}
-use native.Mathlib.Omega.{arith}
 use Rattle.book.specs.Book.{year_count, listed_body}
-use Rattle.book.proofs.Bodies.{laid, within, body_from, from_start, from-here, from_next, from_end}
-use borrow.Author.Rules.{rules}
+use Rattle.book.proofs.Bodies.{body_from}
 use Rattle.book.proofs.contents.listed_body.Given as goal
 
 abbrev pub invariant-loop-i : goal.invariant-loop-i

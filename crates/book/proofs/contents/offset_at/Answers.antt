@@ -1,7 +1,6 @@
 -- `book::contents::offset_at` meets its contract. Assumes nothing.
 use mathlib.Core.Path.{◌∙◌}
 use Rattle.book.proofs.Bodies.{offset_read}
-use borrow.Author.Rules.{rules}
 use Rattle.book.proofs.contents.offset_at.Goals as goal
 
 pub returns : goal.returns

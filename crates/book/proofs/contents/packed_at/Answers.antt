@@ -1,7 +1,6 @@
 -- `book::contents::packed_at` meets its contract. Assumes nothing.
 use native.Mathlib.Omega.{arith}
 use Rattle.book.proofs.Bodies.{bodies-most, packed-read}
-use borrow.Author.Rules.{rules}
 use Rattle.book.proofs.contents.packed_at.Goals as goal
 
 pub overflow_mul-result : goal.overflow_mul-result

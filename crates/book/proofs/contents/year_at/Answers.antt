@@ -1,6 +1,5 @@
 -- `book::contents::year_at` meets its contract. Assumes nothing.
 use Rattle.book.proofs.Bodies.{year-read}
-use borrow.Author.Rules.{rules}
 use Rattle.book.proofs.contents.year_at.Goals as goal
 
 pub returns : goal.returns

@@ -1,7 +1,6 @@
 -- `book::contents::year_count` meets its contract. Assumes nothing.
 use mathlib.Core.Path.{◌∙◌}
 use Rattle.book.specs.Book.{year_count}
-use borrow.Author.Rules.{rules}
 use Rattle.book.proofs.contents.year_count.Goals as goal
 
 pub returns : goal.returns

@@ -4,7 +4,6 @@ use Prim.Native.Nat.{ℕ}
 use native.Mathlib.Omega.{arith}
 use Rattle.book.specs.Book.{Kept}
 use Rattle.book.proofs.LookUp.{clear, book-first, year-missing, year-listed}
-use borrow.Author.Rules.{rules}
 use Rattle.book.proofs.find.find_year.Goals as goal
 
 pub returns-then-on_book-ne0 : goal.returns-then-on_book-ne0

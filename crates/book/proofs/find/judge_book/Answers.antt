@@ -1,11 +1,9 @@
 -- `book::find::judge_book` meets its contract. Assumes nothing.
 use mathlib.Core.Path.{◌∙◌}
 use native.Mathlib.Omega.{arith}
-use borrow.Author.Tests.{not-true, not-false}
 use Rattle.filecheck.proofs.Accepted.{accepted-facts}
 use Rattle.answers.proofs.Answers.{accepted-of}
 use Rattle.book.proofs.LookUp.{file-first, book-broken, book-good}
-use borrow.Author.Rules.{rules}
 use Rattle.book.proofs.find.judge_book.Goals as goal
 
 pub returns-then-on_file-ne0 : goal.returns-then-on_file-ne0

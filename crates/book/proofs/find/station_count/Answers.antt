@@ -1,6 +1,5 @@
 -- `book::find::station_count` meets its contract. Assumes nothing.
 use Rattle.records.proofs.Decoded.{file-rows}
-use borrow.Author.Rules.{rules}
 use Rattle.book.proofs.find.station_count.Goals as goal
 
 pub returns : goal.returns

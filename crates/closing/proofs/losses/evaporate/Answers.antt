@@ -1,7 +1,6 @@
 use mathlib.Core.Path.{subst}
 use native.Mathlib.Omega.{arith}
-use borrow.Author.Rules.{rules}
-use Prim.Native.Nat.{ℕ, ◌≤◌, ◌-◌}
+use Prim.Native.Nat.{ℕ}
 use Rattle.closing.specs.Losses.{Lost}
 use Rattle.closing.proofs.Evaporating.{lost-none, lost-at}
 use Rattle.closing.proofs.losses.evaporate.Goals as goal

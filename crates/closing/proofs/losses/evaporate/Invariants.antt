@@ -1,10 +1,6 @@
 -- `closing::losses::evaporate` meets its contract. Assumes nothing.
-use mathlib.Core.Path.{subst}
-use native.Mathlib.Omega.{arith}
-use borrow.Author.Rules.{rules}
-use Prim.Native.Nat.{ℕ, ◌≤◌, ◌-◌}
+use Prim.Native.Nat.{◌≤◌, ◌-◌}
 use Rattle.closing.specs.Losses.{Lost}
-use Rattle.closing.proofs.Evaporating.{lost-none, lost-at}
 use Rattle.closing.proofs.losses.evaporate.Given as goal
 
 abbrev pub invariant-loop-v : goal.invariant-loop-v

@@ -1,7 +1,6 @@
 use mathlib.Core.Path.{sym, subst, ◌∙◌}
 use native.Mathlib.Omega.{arith}
-use Prim.Native.Nat.{ℕ, ◌-◌, ◌≤◌}
-use borrow.Author.Rules.{rules}
+use Prim.Native.Nat.{ℕ}
 use Rattle.closing.proofs.Surveyed.{Reached, reached-none, reached-first, ends-between, reached-next, reached-last}
 use Rattle.closing.proofs.losses.lake_area.Goals as goal
 

@@ -1,9 +1,6 @@
 -- `closing::losses::lake_area` meets its contract. Assumes nothing.
-use mathlib.Core.Path.{sym, subst, ◌∙◌}
-use native.Mathlib.Omega.{arith}
-use Prim.Native.Nat.{ℕ, ◌-◌, ◌≤◌}
-use borrow.Author.Rules.{rules}
-use Rattle.closing.proofs.Surveyed.{Reached, reached-none, reached-first, ends-between, reached-next, reached-last}
+use Prim.Native.Nat.{◌-◌, ◌≤◌}
+use Rattle.closing.proofs.Surveyed.{Reached}
 use Rattle.closing.proofs.losses.lake_area.Given as goal
 
 abbrev pub invariant-loop-k : goal.invariant-loop-k

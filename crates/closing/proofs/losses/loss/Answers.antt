@@ -6,7 +6,6 @@ use Prim.Native.Nat.{ℕ, ◌≤◌, ◌*◌, min}
 use Rattle.general.proofs.Tables.{tab-at}
 use Rattle.rules.specs.Month.{area_at, evaporation}
 use Rattle.records.specs.Records.{depth_at, reservoir_of}
-use borrow.Author.Rules.{rules}
 use Rattle.closing.proofs.losses.loss.Goals as goal
 
 pub overflow_mul-area : goal.overflow_mul-area

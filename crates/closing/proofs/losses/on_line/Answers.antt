@@ -1,6 +1,5 @@
 -- `closing::losses::on_line` meets its contract. Assumes nothing.
 use mathlib.Core.Path.{◌∙◌}
-use borrow.Author.Rules.{rules}
 use Rattle.closing.proofs.Surveyed.{line_of}
 use Rattle.closing.proofs.losses.on_line.Goals as goal
 

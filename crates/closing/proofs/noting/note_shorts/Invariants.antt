@@ -1,19 +1,7 @@
 -- `closing::noting::note_shorts` meets its contract. The loop's invariant: the words passed are noted, the short ones counted. Assumes nothing.
-use mathlib.Core.List.{List}
-use mathlib.Core.Path.{◌≡◌, ap, ◌∙◌, subst}
-use mathlib.Core.Bool.{not}
-use Prim.Native.Nat.{ℕ, ◌+◌, ◌-◌, ◌≤◌, ◌<◌}
-use native.Mathlib.Omega.{arith}
-use borrow.Author.Rules.{rules}
-use lib.Dec.{eqb}
-use lib.ListN.{get_or}
-use Rattle.general.specs.Sums.{only}
-use Rattle.general.specs.Tests.{with_bit}
-use Rattle.general.proofs.Loops.{total-none, total-more}
-use Rattle.places.specs.Board.{word_place}
-use Rattle.places.specs.Report.{from_river_place}
-use Rattle.closing.specs.Noting.{has_reason, reasons_in, CanNote, WordsNoted}
-use Rattle.closing.proofs.Noted.{noted-none, noted-at}
+use mathlib.Core.Path.{◌≡◌}
+use Prim.Native.Nat.{◌-◌, ◌≤◌}
+use Rattle.closing.specs.Noting.{reasons_in, WordsNoted}
 use Rattle.closing.proofs.noting.note_shorts.Given as goal
 
 abbrev pub invariant-loop-i : goal.invariant-loop-i

@@ -1,11 +1,10 @@
-use mathlib.Core.Path.{◌≡◌, sym, ap, ◌∙◌}
-use Prim.Native.Nat.{ℕ, ◌+◌, ◌-◌, ◌*◌, ◌≤◌}
+use mathlib.Core.Path.{sym, ap, ◌∙◌}
+use Prim.Native.Nat.{ℕ, ◌+◌, ◌*◌}
 use native.Mathlib.Omega.{arith}
-use lib.ListN.{length, length-set}
-use Rattle.general.proofs.Lists.{Written, written_none, written-more, written_all}
+use lib.ListN.{length-set}
+use Rattle.general.proofs.Lists.{written_none, written-more, written_all}
 use Rattle.numbers.specs.Bytes.{le64_at}
-use Rattle.places.specs.Board.{board_length}
-use Rattle.entries.specs.Entries.{board_start, board_at}
+use Rattle.entries.specs.Entries.{board_at}
 use Rattle.entries.proofs.Numbers.{board-length, board-place}
 use borrow.Author.Rules.{rules}
 use Rattle.entries.proofs.copies.numbers_at.Goals as goal

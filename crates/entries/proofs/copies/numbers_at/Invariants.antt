@@ -1,14 +1,10 @@
 -- `entries::copies::numbers_at` meets its contract. Assumes nothing.
-use mathlib.Core.Path.{◌≡◌, sym, ap, ◌∙◌}
-use Prim.Native.Nat.{ℕ, ◌+◌, ◌-◌, ◌*◌, ◌≤◌}
-use native.Mathlib.Omega.{arith}
-use lib.ListN.{length, length-set}
-use Rattle.general.proofs.Lists.{Written, written_none, written-more, written_all}
-use Rattle.numbers.specs.Bytes.{le64_at}
+use mathlib.Core.Path.{◌≡◌}
+use Prim.Native.Nat.{◌-◌, ◌≤◌}
+use lib.ListN.{length}
+use Rattle.general.proofs.Lists.{Written}
 use Rattle.places.specs.Board.{board_length}
 use Rattle.entries.specs.Entries.{board_start, board_at}
-use Rattle.entries.proofs.Numbers.{board-length, board-place}
-use borrow.Author.Rules.{rules}
 use Rattle.entries.proofs.copies.numbers_at.Given as goal
 
 abbrev pub invariant-loop-k : goal.invariant-loop-k

@@ -1,9 +1,7 @@
-use mathlib.Core.Path.{◌≡◌, refl, sym, ◌∙◌}
-use Prim.Native.Nat.{◌-◌, ◌≤◌}
+use mathlib.Core.Path.{refl, sym, ◌∙◌}
 use native.Mathlib.Omega.{arith}
-use lib.ListN.{length, length-set}
-use Rattle.general.proofs.Lists.{Written, written_none, written-more, written_all}
-use Rattle.places.specs.Board.{board_length}
+use lib.ListN.{length-set}
+use Rattle.general.proofs.Lists.{written_none, written-more, written_all}
 use borrow.Author.Rules.{rules}
 use Rattle.entries.proofs.copies.numbers_of.Goals as goal
 

@@ -1,11 +1,9 @@
 -- `entries::copies::numbers_of` meets its contract. Assumes nothing.
-use mathlib.Core.Path.{◌≡◌, refl, sym, ◌∙◌}
+use mathlib.Core.Path.{◌≡◌}
 use Prim.Native.Nat.{◌-◌, ◌≤◌}
-use native.Mathlib.Omega.{arith}
-use lib.ListN.{length, length-set}
-use Rattle.general.proofs.Lists.{Written, written_none, written-more, written_all}
+use lib.ListN.{length}
+use Rattle.general.proofs.Lists.{Written}
 use Rattle.places.specs.Board.{board_length}
-use borrow.Author.Rules.{rules}
 use Rattle.entries.proofs.copies.numbers_of.Given as goal
 
 abbrev pub invariant-loop-k : goal.invariant-loop-k

@@ -1,10 +1,9 @@
-use mathlib.Core.Path.{◌≡◌, ap, ◌∙◌}
-use Prim.Native.Nat.{ℕ, ◌-◌, ◌≤◌}
+use mathlib.Core.Path.{ap, ◌∙◌}
+use Prim.Native.Nat.{ℕ}
 use native.Mathlib.Omega.{arith}
-use lib.ListN.{length, take}
+use lib.ListN.{take}
 use Rattle.general.specs.Parts.{over}
-use Rattle.places.specs.Board.{board_length}
-use Rattle.entries.specs.Entries.{store_length, board_start, bytes_of}
+use Rattle.entries.specs.Entries.{board_start, bytes_of}
 use Rattle.entries.proofs.Numbers.{numbers-none, numbers_more, numbers-all}
 use borrow.Author.Rules.{rules}
 use Rattle.entries.proofs.copies.put_numbers.Goals as goal

@@ -1,13 +1,10 @@
 -- `entries::copies::put_numbers` meets its contract. Assumes nothing.
-use mathlib.Core.Path.{◌≡◌, ap, ◌∙◌}
-use Prim.Native.Nat.{ℕ, ◌-◌, ◌≤◌}
-use native.Mathlib.Omega.{arith}
+use mathlib.Core.Path.{◌≡◌}
+use Prim.Native.Nat.{◌-◌, ◌≤◌}
 use lib.ListN.{length, take}
 use Rattle.general.specs.Parts.{over}
 use Rattle.places.specs.Board.{board_length}
 use Rattle.entries.specs.Entries.{store_length, board_start, bytes_of}
-use Rattle.entries.proofs.Numbers.{numbers-none, numbers_more, numbers-all}
-use borrow.Author.Rules.{rules}
 use Rattle.entries.proofs.copies.put_numbers.Given as goal
 
 abbrev pub invariant-loop-k : goal.invariant-loop-k

@@ -1,6 +1,5 @@
 -- `entries::copies::read_board` meets its contract. Assumes nothing.
 use mathlib.Core.Path.{◌∙◌}
-use borrow.Author.Rules.{rules}
 use Rattle.entries.proofs.copies.read_board.Goals as goal
 
 pub returns : goal.returns

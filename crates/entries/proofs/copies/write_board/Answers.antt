@@ -4,7 +4,6 @@ use mathlib.Core.List.{List}
 use Prim.Native.Nat.{ℕ}
 use Rattle.general.specs.Parts.{over}
 use Rattle.entries.specs.Entries.{board_start, bytes_of}
-use borrow.Author.Rules.{rules}
 use Rattle.entries.proofs.copies.write_board.Goals as goal
 
 pub returns : goal.returns

@@ -1,8 +1,6 @@
-use mathlib.Core.Path.{◌≡◌, refl, sym, ap, ◌∙◌}
-use Prim.Native.Nat.{◌-◌, ◌≤◌}
+use mathlib.Core.Path.{refl, sym, ap, ◌∙◌}
 use native.Mathlib.Omega.{arith}
 use borrow.Author.Rules.{rules}
-use Rattle.general.specs.Tests.{first_at}
 use Rattle.general.proofs.Loops.{search-here, search-on, search-over}
 use Rattle.entries.specs.Entries.{is_named, first_named, found_of}
 use Rattle.entries.proofs.names.find.Goals as goal

@@ -1,11 +1,8 @@
 -- `entries::names::find` meets its contract. The loop's invariant: the entries not yet looked at give the answer that is asked for. Assumes nothing.
-use mathlib.Core.Path.{◌≡◌, refl, sym, ap, ◌∙◌}
+use mathlib.Core.Path.{◌≡◌}
 use Prim.Native.Nat.{◌-◌, ◌≤◌}
-use native.Mathlib.Omega.{arith}
-use borrow.Author.Rules.{rules}
 use Rattle.general.specs.Tests.{first_at}
-use Rattle.general.proofs.Loops.{search-here, search-on, search-over}
-use Rattle.entries.specs.Entries.{is_named, first_named, found_of}
+use Rattle.entries.specs.Entries.{is_named, first_named}
 use Rattle.entries.proofs.names.find.Given as goal
 
 abbrev pub invariant-loop-entry : goal.invariant-loop-entry

@@ -1,5 +1,4 @@
 -- `entries::names::fixed` meets its contract. Assumes nothing.
-use borrow.Author.Rules.{rules}
 use Rattle.entries.proofs.Numbers.{eight-elements}
 use Rattle.entries.proofs.names.fixed.Goals as goal
 

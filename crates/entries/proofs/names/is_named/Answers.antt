@@ -2,7 +2,6 @@
 use mathlib.Core.Path.{ap, ◌∙◌}
 use Prim.Native.Nat.{ℕ, ◌*◌}
 use native.Mathlib.Nat.{add-sub_cancel_left}
-use borrow.Author.Rules.{rules}
 use lib.ListN.{take, drop}
 use Rattle.entries.specs.Entries.{name_at, same_name, is_named}
 use Rattle.entries.proofs.names.is_named.Goals as goal

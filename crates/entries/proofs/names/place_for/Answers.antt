@@ -1,6 +1,5 @@
 -- `entries::names::place_for` meets its contract. Assumes nothing.
 use mathlib.Core.Path.{refl, sym, ap, ◌∙◌}
-use borrow.Author.Rules.{rules}
 use Rattle.entries.specs.Entries.{first_named, found_of}
 use Rattle.entries.proofs.LookUp.{looked-none, looked-at, place-named, place-new}
 use Rattle.entries.proofs.names.place_for.Goals as goal

@@ -1,13 +1,9 @@
 -- `entries::names::same_name` meets its contract. The loop's invariant: the bytes passed are the same. Assumes nothing.
-use mathlib.Core.Path.{◌≡◌, ap, ◌∙◌}
-use Prim.Native.Nat.{ℕ, ◌-◌, ◌≤◌}
-use native.Mathlib.Omega.{arith}
-use borrow.Author.Rules.{rules}
+use mathlib.Core.Path.{◌≡◌}
+use Prim.Native.Nat.{◌-◌, ◌≤◌}
 use lib.Dec.{eqb}
 use lib.ListN.{get_or}
 use Rattle.general.specs.Tests.{all_to}
-use Rattle.general.proofs.Loops.{all_none, all_more}
-use Rattle.entries.specs.Entries.{same_name}
 use Rattle.entries.proofs.names.same_name.Given as goal
 
 abbrev pub invariant-loop-j : goal.invariant-loop-j

@@ -1,10 +1,8 @@
-use mathlib.Core.Path.{◌≡◌}
-use Prim.Native.Nat.{◌-◌, ◌*◌, ◌≤◌}
+use Prim.Native.Nat.{◌*◌}
 use native.Mathlib.Omega.{arith}
 use borrow.Author.Rules.{rules}
-use lib.ListN.{length, length-set}
-use Rattle.entries.specs.Entries.{store_length}
-use Rattle.general.proofs.Parts.{Copied, copied_none, copied_more, copied_all}
+use lib.ListN.{length-set}
+use Rattle.general.proofs.Parts.{copied_none, copied_more, copied_all}
 use Rattle.entries.proofs.names.write_name.Goals as goal
 
 pub loop-j-init : goal.loop-j-init

@@ -1,11 +1,9 @@
 -- `entries::names::write_name` meets its contract. The loop's invariant: so many bytes of the name are copied. Assumes nothing.
 use mathlib.Core.Path.{◌≡◌}
 use Prim.Native.Nat.{◌-◌, ◌*◌, ◌≤◌}
-use native.Mathlib.Omega.{arith}
-use borrow.Author.Rules.{rules}
-use lib.ListN.{length, length-set}
+use lib.ListN.{length}
 use Rattle.entries.specs.Entries.{store_length}
-use Rattle.general.proofs.Parts.{Copied, copied_none, copied_more, copied_all}
+use Rattle.general.proofs.Parts.{Copied}
 use Rattle.entries.proofs.names.write_name.Given as goal
 
 abbrev pub invariant-loop-j : goal.invariant-loop-j

@@ -1,6 +1,5 @@
 -- `filecheck::check::check_bodies` meets its contract. A refused body gives the verdict; an accepted one leaves it to the next. Assumes nothing.
 use mathlib.Core.Path.{sym, ◌∙◌}
-use borrow.Author.Rules.{rules}
 use Rattle.filecheck.proofs.Faults.{at-stations, at-reservoirs, at-patterns, at-rights, rows-good}
 use Rattle.filecheck.proofs.check.check_bodies.Goals as goal
 

@@ -1,14 +1,12 @@
-use mathlib.Core.Path.{◌≡◌, refl, ◌∙◌}
-use Prim.Native.Nat.{◌-◌, ◌≤◌}
+use mathlib.Core.Path.{refl, ◌∙◌}
 use native.Mathlib.Omega.{arith}
-use borrow.Author.Rules.{rules}
 use Rattle.general.specs.Sums.{sum}
 use Rattle.general.proofs.Tests.{leb_yes, leb_no}
-use Rattle.rules.specs.declared.Verdict.TheVariants.{Accepted, Pattern}
-use Rattle.records.specs.Records.{pattern_count, pattern_of}
+use Rattle.rules.specs.declared.Verdict.TheVariants.{Pattern}
+use Rattle.records.specs.Records.{pattern_of}
 use Rattle.filerules.specs.FileRules.{pattern_ok}
 use Rattle.filecheck.specs.Check.{patterns_verdict}
-use Rattle.filecheck.proofs.Faults.{verdict_from, verdict-all, verdict-on, verdict-here, verdict-done}
+use Rattle.filecheck.proofs.Faults.{verdict-all, verdict-on, verdict-here, verdict-done}
 use Rattle.filecheck.proofs.patterns.check_patterns.Goals as goal
 
 pub loop-p-init : goal.loop-p-init

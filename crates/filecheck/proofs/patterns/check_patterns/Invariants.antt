@@ -1,15 +1,11 @@
 -- `filecheck::patterns::check_patterns` meets its contract. The loop's invariant: the patterns not yet looked at give the verdict. Assumes nothing.
-use mathlib.Core.Path.{◌≡◌, refl, ◌∙◌}
+use mathlib.Core.Path.{◌≡◌}
 use Prim.Native.Nat.{◌-◌, ◌≤◌}
-use native.Mathlib.Omega.{arith}
-use borrow.Author.Rules.{rules}
-use Rattle.general.specs.Sums.{sum}
-use Rattle.general.proofs.Tests.{leb_yes, leb_no}
 use Rattle.rules.specs.declared.Verdict.TheVariants.{Accepted, Pattern}
-use Rattle.records.specs.Records.{pattern_count, pattern_of}
+use Rattle.records.specs.Records.{pattern_count}
 use Rattle.filerules.specs.FileRules.{pattern_ok}
 use Rattle.filecheck.specs.Check.{patterns_verdict}
-use Rattle.filecheck.proofs.Faults.{verdict_from, verdict-all, verdict-on, verdict-here, verdict-done}
+use Rattle.filecheck.proofs.Faults.{verdict_from}
 use Rattle.filecheck.proofs.patterns.check_patterns.Given as goal
 
 abbrev pub invariant-loop-p : goal.invariant-loop-p

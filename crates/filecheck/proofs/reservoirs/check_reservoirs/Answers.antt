@@ -1,13 +1,9 @@
-use mathlib.Core.Path.{◌≡◌, refl, ◌∙◌}
-use Prim.Native.Nat.{◌-◌, ◌≤◌}
+use mathlib.Core.Path.{refl, ◌∙◌}
 use native.Mathlib.Omega.{arith}
-use borrow.Author.Rules.{rules}
-use borrow.Author.Tests.{not-true, not-false}
-use Rattle.rules.specs.declared.Verdict.TheVariants.{Accepted, Reservoir}
-use Rattle.records.specs.Records.{reservoir_count}
+use Rattle.rules.specs.declared.Verdict.TheVariants.{Reservoir}
 use Rattle.filerules.specs.FileRules.{reservoir_ok}
 use Rattle.filecheck.specs.Check.{reservoirs_verdict}
-use Rattle.filecheck.proofs.Faults.{verdict_from, verdict-all, verdict-good, verdict-bad, verdict-done}
+use Rattle.filecheck.proofs.Faults.{verdict-all, verdict-good, verdict-bad, verdict-done}
 use Rattle.filecheck.proofs.reservoirs.check_reservoirs.Goals as goal
 
 pub loop-v-init : goal.loop-v-init

@@ -1,14 +1,11 @@
 -- `filecheck::reservoirs::check_reservoirs` meets its contract. The loop's invariant: the reservoirs not yet looked at give the verdict. Assumes nothing.
-use mathlib.Core.Path.{◌≡◌, refl, ◌∙◌}
+use mathlib.Core.Path.{◌≡◌}
 use Prim.Native.Nat.{◌-◌, ◌≤◌}
-use native.Mathlib.Omega.{arith}
-use borrow.Author.Rules.{rules}
-use borrow.Author.Tests.{not-true, not-false}
 use Rattle.rules.specs.declared.Verdict.TheVariants.{Accepted, Reservoir}
 use Rattle.records.specs.Records.{reservoir_count}
 use Rattle.filerules.specs.FileRules.{reservoir_ok}
 use Rattle.filecheck.specs.Check.{reservoirs_verdict}
-use Rattle.filecheck.proofs.Faults.{verdict_from, verdict-all, verdict-good, verdict-bad, verdict-done}
+use Rattle.filecheck.proofs.Faults.{verdict_from}
 use Rattle.filecheck.proofs.reservoirs.check_reservoirs.Given as goal
 
 abbrev pub invariant-loop-v : goal.invariant-loop-v

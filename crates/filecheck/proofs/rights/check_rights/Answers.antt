@@ -1,13 +1,10 @@
-use mathlib.Core.Path.{◌≡◌, refl, ◌∙◌}
-use Prim.Native.Nat.{◌-◌, ◌≤◌}
+use mathlib.Core.Path.{refl, ◌∙◌}
 use native.Mathlib.Omega.{arith}
-use borrow.Author.Rules.{rules}
-use borrow.Author.Tests.{not-true, not-false}
-use Rattle.rules.specs.declared.Verdict.TheVariants.{Accepted, Right}
-use Rattle.records.specs.Records.{pattern_count, right_count}
+use Rattle.rules.specs.declared.Verdict.TheVariants.{Right}
+use Rattle.records.specs.Records.{pattern_count}
 use Rattle.filerules.specs.FileRules.{right_ok}
 use Rattle.filecheck.specs.Check.{rights_verdict}
-use Rattle.filecheck.proofs.Faults.{verdict_from, verdict-all, verdict-good, verdict-bad, verdict-done}
+use Rattle.filecheck.proofs.Faults.{verdict-all, verdict-good, verdict-bad, verdict-done}
 use Rattle.filecheck.proofs.rights.check_rights.Goals as goal
 
 pub loop-i-init : goal.loop-i-init

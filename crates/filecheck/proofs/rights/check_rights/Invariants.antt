@@ -1,14 +1,11 @@
 -- `filecheck::rights::check_rights` meets its contract. The loop's invariant: the rights not yet looked at give the verdict. Assumes nothing.
-use mathlib.Core.Path.{◌≡◌, refl, ◌∙◌}
+use mathlib.Core.Path.{◌≡◌}
 use Prim.Native.Nat.{◌-◌, ◌≤◌}
-use native.Mathlib.Omega.{arith}
-use borrow.Author.Rules.{rules}
-use borrow.Author.Tests.{not-true, not-false}
 use Rattle.rules.specs.declared.Verdict.TheVariants.{Accepted, Right}
-use Rattle.records.specs.Records.{pattern_count, right_count}
+use Rattle.records.specs.Records.{right_count}
 use Rattle.filerules.specs.FileRules.{right_ok}
 use Rattle.filecheck.specs.Check.{rights_verdict}
-use Rattle.filecheck.proofs.Faults.{verdict_from, verdict-all, verdict-good, verdict-bad, verdict-done}
+use Rattle.filecheck.proofs.Faults.{verdict_from}
 use Rattle.filecheck.proofs.rights.check_rights.Given as goal
 
 abbrev pub invariant-loop-i : goal.invariant-loop-i

@@ -1,9 +1,6 @@
-use mathlib.Core.Path.{◌≡◌, sym, ap, ◌∙◌}
-use Prim.Native.Nat.{◌+◌, ◌-◌, ◌≤◌}
+use mathlib.Core.Path.{sym, ap, ◌∙◌}
 use native.Mathlib.Omega.{arith}
-use borrow.Author.Rules.{rules}
-use borrow.Author.Tests.{not-true, not-false}
-use Rattle.rules.specs.declared.Verdict.TheVariants.{Accepted, Station}
+use Rattle.rules.specs.declared.Verdict.TheVariants.{Station}
 use Rattle.records.specs.Records.{rows_of}
 use Rattle.filerules.specs.FileRules.{station_ok}
 use Rattle.filecheck.specs.Check.{stations_verdict}

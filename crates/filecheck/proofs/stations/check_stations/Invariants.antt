@@ -1,17 +1,13 @@
 -- `filecheck::stations::check_stations` meets its contract. The loop's invariant: the rows not yet looked at give the verdict, and the table has the rows
 -- below of the others. The last row has its own function. Assumes nothing.
-use mathlib.Core.Path.{◌≡◌, sym, ap, ◌∙◌}
+use mathlib.Core.Path.{◌≡◌}
 use Prim.Native.Nat.{◌+◌, ◌-◌, ◌≤◌}
-use native.Mathlib.Omega.{arith}
-use borrow.Author.Rules.{rules}
-use borrow.Author.Tests.{not-true, not-false}
 use Rattle.rules.specs.declared.Verdict.TheVariants.{Accepted, Station}
 use Rattle.records.specs.Records.{rows_of}
 use Rattle.filerules.specs.FileRules.{station_ok}
 use Rattle.filecheck.specs.Check.{stations_verdict}
-use Rattle.filecheck.proofs.Faults.{verdict_from, verdict-all, verdict-on, verdict-here, verdict-last}
-use Rattle.filecheck.proofs.Found.{found_to, found_none, found-lost, found-small, found-more, found_all}
-use Rattle.filerules.proofs.RowRules.{plain-fails, row-lost, row-good}
+use Rattle.filecheck.proofs.Faults.{verdict_from}
+use Rattle.filecheck.proofs.Found.{found_to}
 use Rattle.filecheck.proofs.stations.check_stations.Given as goal
 
 abbrev pub invariant-loop-row : goal.invariant-loop-row

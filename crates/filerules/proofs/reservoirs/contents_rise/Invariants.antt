@@ -1,15 +1,11 @@
 -- `filerules::reservoirs::contents_rise` meets its contract. The loop's invariant: each pair passed holds less than the next. Assumes nothing.
-use mathlib.Core.Path.{◌≡◌, ap, ◌∙◌}
+use mathlib.Core.Path.{◌≡◌}
 use mathlib.Core.Bool.{Bool}
 use mathlib.Core.List.{List}
 use Prim.Native.Nat.{ℕ, ◌+◌, ◌-◌, ◌≤◌}
-use native.Mathlib.Omega.{arith}
-use borrow.Author.Rules.{rules}
 use lib.Dec.{ltb}
-use Rattle.general.specs.Tests.{◌and◌, all_to}
-use Rattle.general.proofs.Loops.{all_none, all_more}
+use Rattle.general.specs.Tests.{all_to}
 use Rattle.records.specs.Records.{content_at}
-use Rattle.filerules.specs.FileRules.{contents_rise}
 use Rattle.filerules.proofs.reservoirs.contents_rise.Given as goal
 
 -- pair k holds less than the next

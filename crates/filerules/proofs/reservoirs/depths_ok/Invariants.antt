@@ -1,15 +1,11 @@
 -- `filerules::reservoirs::depths_ok` meets its contract. The loop's invariant: all depths passed are at most 1000. Assumes nothing.
-use mathlib.Core.Path.{◌≡◌, ap, ◌∙◌}
+use mathlib.Core.Path.{◌≡◌}
 use mathlib.Core.Bool.{Bool}
 use mathlib.Core.List.{List}
 use Prim.Native.Nat.{ℕ, ◌-◌, ◌≤◌}
-use native.Mathlib.Omega.{arith}
-use borrow.Author.Rules.{rules}
 use lib.Dec.{leb}
-use Rattle.general.specs.Tests.{◌and◌, all_to}
-use Rattle.general.proofs.Loops.{all_none, all_more}
+use Rattle.general.specs.Tests.{all_to}
 use Rattle.records.specs.Records.{depth_at}
-use Rattle.filerules.specs.FileRules.{depths_ok}
 use Rattle.filerules.proofs.reservoirs.depths_ok.Given as goal
 
 abbrev pub small : List ℕ → ℕ → ℕ → Bool

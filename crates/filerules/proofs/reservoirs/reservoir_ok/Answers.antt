@@ -3,7 +3,6 @@ use mathlib.Core.Bool.{Bool}
 use mathlib.Core.List.{List}
 use mathlib.Core.Path.{◌≡◌}
 use Prim.Native.Nat.{ℕ}
-use borrow.Author.Rules.{rules}
 use Rattle.general.specs.Tests.{◌and◌}
 use Rattle.filerules.specs.FileRules.{depths_ok, surveys_ok, reservoir_plain, reservoir_ok}
 use Rattle.filerules.proofs.reservoirs.reservoir_ok.Goals as goal

@@ -1,5 +1,4 @@
 -- `filerules::rights::amounts_ok` meets its contract. Assumes nothing.
-use borrow.Author.Rules.{rules}
 use Rattle.numbers.specs.Bytes.{all_at_most}
 use Rattle.records.specs.Records.{amount_at}
 use Rattle.filerules.specs.FileRules.{amounts_ok}

@@ -1,7 +1,6 @@
 -- `filerules::rights::at_reservoir` meets its contract. Assumes nothing.
 use mathlib.Core.Path.{sym, ap, ◌∙◌}
 use native.Mathlib.Omega.{arith}
-use borrow.Author.Rules.{rules}
 use lib.Dec.{eqb}
 use Rattle.records.specs.declared.reservoirs.ReservoirRecord.{ReservoirRecord}
 use Rattle.filerules.proofs.Cases.{at_none, at_one}

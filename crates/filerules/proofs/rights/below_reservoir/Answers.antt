@@ -2,7 +2,6 @@
 use mathlib.Core.Path.{sym, ap, ◌∙◌}
 use Prim.Native.Nat.{ℕ}
 use native.Mathlib.Omega.{arith}
-use borrow.Author.Rules.{rules}
 use Rattle.general.specs.Tests.{has}
 use Rattle.rules.specs.Path.{path}
 use Rattle.records.specs.declared.reservoirs.ReservoirRecord.{ReservoirRecord}

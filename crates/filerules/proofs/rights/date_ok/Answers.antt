@@ -1,5 +1,4 @@
 -- `filerules::rights::date_ok` meets its contract. Assumes nothing.
-use borrow.Author.Rules.{rules}
 use Rattle.filerules.specs.FileRules.{date_ok}
 use Rattle.filerules.proofs.rights.date_ok.Goals as goal
 

@@ -1,6 +1,5 @@
 -- `filerules::rights::diversion_ok` meets its contract. Assumes nothing.
 use mathlib.Core.Path.{sym, ◌∙◌}
-use borrow.Author.Rules.{rules}
 use Rattle.filerules.proofs.Cases.{all-consumed, returns-shared}
 use Rattle.filerules.proofs.rights.diversion_ok.Goals as goal
 

@@ -1,14 +1,11 @@
 -- `filerules::rights::each_point_ok` meets its contract. The loop's invariant: all points passed keep their rule. Assumes nothing.
-use mathlib.Core.Path.{◌≡◌, ap, ◌∙◌}
+use mathlib.Core.Path.{◌≡◌}
 use mathlib.Core.Bool.{Bool}
 use mathlib.Core.List.{List}
 use Prim.Native.Nat.{ℕ, ◌-◌, ◌≤◌}
-use native.Mathlib.Omega.{arith}
-use borrow.Author.Rules.{rules}
-use Rattle.general.specs.Tests.{◌and◌, all_to}
-use Rattle.general.proofs.Loops.{all_none, all_more}
+use Rattle.general.specs.Tests.{all_to}
 use Rattle.records.specs.Records.{return_row, return_percent}
-use Rattle.filerules.specs.FileRules.{point_ok, each_point_ok}
+use Rattle.filerules.specs.FileRules.{point_ok}
 use Rattle.filerules.proofs.rights.each_point_ok.Given as goal
 
 abbrev pub good : ℕ → ℕ → List ℕ → ℕ → ℕ → Bool

@@ -2,7 +2,6 @@
 use mathlib.Core.Bool.{Bool}
 use mathlib.Core.Path.{◌≡◌}
 use Prim.Native.Nat.{ℕ}
-use borrow.Author.Rules.{rules}
 use lib.Dec.{leb, ltb}
 use Rattle.general.specs.Tests.{◌and◌, between}
 use Rattle.records.specs.declared.rights.RightRecord.{RightRecord}

@@ -1,5 +1,4 @@
 -- `filerules::rights::is_earlier` meets its contract. Assumes nothing.
-use borrow.Author.Rules.{rules}
 use Rattle.filerules.specs.FileRules.{earlier}
 use Rattle.filerules.proofs.rights.is_earlier.Goals as goal
 

@@ -1,7 +1,6 @@
 -- `filerules::rights::kind_known` meets its contract. Assumes nothing.
 use mathlib.Core.Path.{ap, ◌∙◌}
 use Prim.Native.Nat.{ℕ}
-use borrow.Author.Rules.{rules}
 use Rattle.general.specs.Tests.{between}
 use Rattle.filerules.specs.FileRules.{kind_known}
 use Rattle.filerules.proofs.rights.kind_known.Goals as goal

@@ -1,6 +1,5 @@
 -- `filerules::rights::limit_ok` meets its contract. Assumes nothing.
 use mathlib.Core.Path.{◌≡◌, refl, sym, ap, ◌∙◌}
-use borrow.Author.Rules.{rules}
 use lib.Dec.{eqb}
 use Rattle.records.specs.declared.rights.Kind.{Kind}
 use Rattle.records.proofs.KindArms.{no-storage}

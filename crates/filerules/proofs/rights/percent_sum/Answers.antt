@@ -1,5 +1,4 @@
 -- `filerules::rights::percent_sum` meets its contract. Assumes nothing.
-use borrow.Author.Rules.{rules}
 use Rattle.numbers.specs.Bytes.{byte_sum}
 use Rattle.records.specs.Records.{return_percent}
 use Rattle.filerules.proofs.rights.percent_sum.Goals as goal

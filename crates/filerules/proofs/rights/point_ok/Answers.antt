@@ -1,5 +1,4 @@
 -- `filerules::rights::point_ok` meets its contract. Assumes nothing.
-use borrow.Author.Rules.{rules}
 use Rattle.filerules.specs.FileRules.{point_ok}
 use Rattle.filerules.proofs.rights.point_ok.Goals as goal
 

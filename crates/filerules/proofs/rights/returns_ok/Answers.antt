@@ -1,7 +1,6 @@
 -- `filerules::rights::returns_ok` meets its contract. Assumes nothing.
 use mathlib.Core.Bool.{Bool}
 use mathlib.Core.Path.{◌≡◌, ap, ◌∙◌}
-use borrow.Author.Rules.{rules}
 use lib.Dec.{eqb}
 use Rattle.general.specs.Tests.{◌and◌}
 use Rattle.records.proofs.KindArms.{direct-or-project, instream-or-storage}

@@ -1,8 +1,6 @@
 -- `filerules::rights::right_ok` meets its contract. A good heading bounds the number of points; the other rules are put together one after the other. Assumes nothing.
 use mathlib.Core.Path.{◌≡◌, sym, ap, ◌∙◌}
 use mathlib.Core.Bool.{false}
-use borrow.Author.Tests.{not-true, not-false}
-use borrow.Author.Rules.{rules}
 use Rattle.records.specs.Records.{rows_of, right_record}
 use Rattle.filerules.specs.FileRules.{heading_ok}
 use Rattle.filerules.proofs.Cases.{kind-bad, heading-bad, right-ruled, few_points}

@@ -4,7 +4,6 @@ use mathlib.Core.List.{List}
 use mathlib.Core.Path.{◌≡◌}
 use Prim.Native.Nat.{ℕ, ◌-◌}
 use borrow.Author.Tests.{eq-eqb, ne_eqb}
-use borrow.Author.Rules.{rules}
 use Rattle.records.specs.declared.rights.RightRecord.{RightRecord}
 use Rattle.records.specs.Records.{right_record}
 use Rattle.filerules.specs.FileRules.{earlier, right_rises}

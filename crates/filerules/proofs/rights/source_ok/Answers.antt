@@ -3,7 +3,6 @@ use mathlib.Core.Bool.{Bool}
 use mathlib.Core.List.{List}
 use mathlib.Core.Path.{◌≡◌, refl}
 use Prim.Native.Nat.{ℕ}
-use borrow.Author.Rules.{rules}
 use lib.Dec.{eqb}
 use Rattle.records.specs.declared.rights.Kind.TheVariants.{Project, Storage}
 use Rattle.records.specs.declared.rights.RightRecord.{RightRecord}

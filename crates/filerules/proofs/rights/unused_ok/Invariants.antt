@@ -1,15 +1,11 @@
 -- `filerules::rights::unused_ok` meets its contract. The loop's invariant: each pair passed is a return point or zero. Assumes nothing.
-use mathlib.Core.Path.{◌≡◌, ap, ◌∙◌}
+use mathlib.Core.Path.{◌≡◌}
 use mathlib.Core.Bool.{Bool, ◌||◌}
 use mathlib.Core.List.{List}
 use Prim.Native.Nat.{ℕ, ◌-◌, ◌≤◌}
-use native.Mathlib.Omega.{arith}
-use borrow.Author.Rules.{rules}
 use lib.Dec.{ltb, eqb}
 use Rattle.general.specs.Tests.{◌and◌, all_to}
-use Rattle.general.proofs.Loops.{all_none, all_more}
 use Rattle.records.specs.Records.{return_row, return_percent}
-use Rattle.filerules.specs.FileRules.{unused_ok}
 use Rattle.filerules.proofs.rights.unused_ok.Given as goal
 
 -- pair k is a return point, or zero

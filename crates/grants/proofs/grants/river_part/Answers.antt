@@ -2,7 +2,6 @@
 use mathlib.Core.Path.{◌≡◌, refl, sym, ◌∙◌}
 use mathlib.Core.Bool.{false}
 use native.Mathlib.Omega.{arith}
-use borrow.Author.Rules.{rules}
 use Rattle.records.proofs.KindArms.{but-instream}
 use Rattle.grants.specs.Stages.{is_instream}
 use Rattle.grants.proofs.Looks.{own_in, called-in, low-in, low_on, gave-nothing, gave-instream, gave-called, gave-low}

@@ -2,7 +2,6 @@
 use Rattle.grants.proofs.Looks.{number_is}
 use mathlib.Core.Path.{sym, ◌∙◌}
 use native.Mathlib.Omega.{arith}
-use borrow.Author.Rules.{rules}
 use Rattle.grants.proofs.grants.station_number.Goals as goal
 
 pub returns : goal.returns

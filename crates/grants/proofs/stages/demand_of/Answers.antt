@@ -5,7 +5,6 @@ use Rattle.records.specs.declared.rights.RightRecord.{RightRecord}
 use Rattle.grants.specs.Stages.{amount_in, RoomLeft, ask_of, ask_in}
 use Prim.Native.Nat.{ℕ}
 use mathlib.Core.Path.{◌≡◌, sym, ap, ◌∙◌, subst}
-use borrow.Author.Rules.{rules}
 use Rattle.grants.proofs.stages.demand_of.Goals as goal
 
 pub storage_ask-requires : goal.storage_ask-requires

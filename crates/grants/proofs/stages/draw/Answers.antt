@@ -2,7 +2,6 @@
 use mathlib.Core.Path.{ap, ◌∙◌}
 use Prim.Native.Nat.{min}
 use native.Mathlib.Omega.{arith}
-use borrow.Author.Rules.{rules}
 use Rattle.places.proofs.BoardPlaces.{place_read}
 use Rattle.records.proofs.KindArms.{but-project}
 use Rattle.records.specs.declared.reservoirs.ReservoirRecord.{ReservoirRecord}

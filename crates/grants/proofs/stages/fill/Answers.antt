@@ -3,7 +3,6 @@ use Rattle.records.proofs.KindArms.{but-storage}
 use Rattle.records.specs.declared.rights.Kind.{Kind}
 use Rattle.grants.specs.Stages.{capacity_in, board_stored}
 use mathlib.Core.Path.{◌≡◌, refl, sym, ap, ◌∙◌}
-use borrow.Author.Rules.{rules}
 use Rattle.grants.proofs.stages.fill.Goals as goal
 
 pub pour-requires : goal.pour-requires

@@ -7,7 +7,6 @@ use Rattle.grants.proofs.RightKinds.{mark-small, nine-at, poured-none, poured-pa
 use Prim.Native.Nat.{◌^◌, ℕ, ◌+◌}
 use mathlib.Core.Path.{sym, ap, ◌∙◌}
 use native.Mathlib.Omega.{arith}
-use borrow.Author.Rules.{rules}
 use lib.ListN.{get_or, set, length-set}
 use Rattle.grants.proofs.stages.pour.Goals as goal
 

@@ -4,7 +4,6 @@ use Rattle.records.specs.declared.rights.RightRecord.{RightRecord}
 use Rattle.grants.proofs.RightKinds.{amount-yes, amount-no}
 use Prim.Native.Nat.{ℕ}
 use mathlib.Core.Path.{◌≡◌, sym, ap, ◌∙◌}
-use borrow.Author.Rules.{rules}
 use Rattle.grants.proofs.stages.scheduled.Goals as goal
 
 pub returns-then-bit_of : goal.returns-then-bit_of

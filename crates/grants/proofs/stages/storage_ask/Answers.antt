@@ -9,7 +9,6 @@ use Prim.Native.Nat.{ℕ, ◌-◌, ◌≤◌, min}
 use mathlib.Core.Path.{ap, ◌∙◌}
 use mathlib.Core.Bool.{Bool, not}
 use native.Mathlib.Omega.{arith}
-use borrow.Author.Rules.{rules}
 use lib.ListN.{get_or}
 use Rattle.grants.proofs.stages.storage_ask.Goals as goal
 

@@ -1,7 +1,6 @@
 -- `grants::stages::storage_demand` meets its contract. Assumes nothing.
 use Prim.Native.Nat.{min}
 use mathlib.Core.Path.{ap, ◌∙◌}
-use borrow.Author.Rules.{rules}
 use Rattle.grants.proofs.stages.storage_demand.Goals as goal
 
 pub returns : goal.returns

@@ -2,7 +2,6 @@
 use mathlib.Core.Path.{◌≡◌, refl}
 use mathlib.Core.Bool.{false}
 use native.Mathlib.Omega.{arith}
-use borrow.Author.Rules.{rules}
 use Rattle.records.proofs.KindArms.{but-instream}
 use Rattle.grants.specs.Stages.{is_instream}
 use Rattle.grants.proofs.RightKinds.{taken-nothing, taken-instream, taken-along}

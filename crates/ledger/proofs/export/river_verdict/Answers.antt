@@ -1,6 +1,5 @@
 -- `ledger::export::river_verdict` meets its contract. Assumes nothing.
 use mathlib.Core.Path.{ap, ◌∙◌}
-use borrow.Author.Rules.{rules}
 use Rattle.rules.specs.Answers.{told}
 use Rattle.ledger.proofs.export.river_verdict.Goals as goal
 

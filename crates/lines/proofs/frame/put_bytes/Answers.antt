@@ -1,9 +1,6 @@
-use mathlib.Core.List.{◌++◌}
-use mathlib.Core.Path.{◌≡◌, refl, ◌∙◌}
-use Prim.Native.Nat.{◌+◌, ◌-◌, ◌≤◌}
+use mathlib.Core.Path.{refl, ◌∙◌}
 use native.Mathlib.Omega.{arith}
-use borrow.Author.Rules.{rules}
-use lib.ListN.{length, take, length-set}
+use lib.ListN.{length-set}
 use Rattle.lines.proofs.Texts.{copy-none, copy_more, copy-all}
 use Rattle.lines.proofs.frame.put_bytes.Goals as goal
 

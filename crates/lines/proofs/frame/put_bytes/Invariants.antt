@@ -1,11 +1,8 @@
 -- `lines::frame::put_bytes` meets its contract. The loop's invariant: the bytes passed stand after what stood before. Assumes nothing.
 use mathlib.Core.List.{◌++◌}
-use mathlib.Core.Path.{◌≡◌, refl, ◌∙◌}
+use mathlib.Core.Path.{◌≡◌}
 use Prim.Native.Nat.{◌+◌, ◌-◌, ◌≤◌}
-use native.Mathlib.Omega.{arith}
-use borrow.Author.Rules.{rules}
-use lib.ListN.{length, take, length-set}
-use Rattle.lines.proofs.Texts.{copy-none, copy_more, copy-all}
+use lib.ListN.{length, take}
 use Rattle.lines.proofs.frame.put_bytes.Given as goal
 
 abbrev pub invariant-loop-i : goal.invariant-loop-i

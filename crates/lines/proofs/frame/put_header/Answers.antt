@@ -1,6 +1,5 @@
 -- `lines::frame::put_header` meets its contract. Assumes nothing.
 use Rattle.listing.specs.Listing.{header}
-use borrow.Author.Rules.{rules}
 use Rattle.lines.proofs.frame.put_header.Goals as goal
 
 pub returns : goal.returns

@@ -1,6 +1,5 @@
 -- `lines::frame::put_refusal` meets its contract: the word and two fields. Assumes nothing.
 use Rattle.lines.proofs.Texts.{refusal-put}
-use borrow.Author.Rules.{rules}
 use Rattle.lines.proofs.frame.put_refusal.Goals as goal
 
 pub returns : goal.returns

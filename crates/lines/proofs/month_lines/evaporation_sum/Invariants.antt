@@ -1,11 +1,8 @@
 -- `lines::month_lines::evaporation_sum` meets its contract. The loop's invariant: the sum is that of the reservoirs passed, and at most 2,000,000,000 for each. Assumes nothing.
-use mathlib.Core.Path.{◌≡◌, ap, ◌∙◌}
-use Prim.Native.Nat.{ℕ, ◌+◌, ◌-◌, ◌*◌, ◌≤◌}
-use native.Mathlib.Omega.{arith}
-use borrow.Author.Rules.{rules}
+use mathlib.Core.Path.{◌≡◌}
+use Prim.Native.Nat.{◌+◌, ◌-◌, ◌*◌, ◌≤◌}
 use lib.ListN.{get_or}
 use Rattle.general.specs.Sums.{sum_to}
-use Rattle.general.proofs.Loops.{total-none, total-more}
 use Rattle.lines.proofs.month_lines.evaporation_sum.Given as goal
 
 abbrev pub invariant-loop-v : goal.invariant-loop-v

@@ -1,5 +1,4 @@
 -- `lines::month_lines::put_end` meets its contract. Assumes nothing.
-use borrow.Author.Rules.{rules}
 use Rattle.lines.proofs.Texts.{end-line-put}
 use Rattle.lines.proofs.month_lines.put_end.Goals as goal
 

@@ -1,6 +1,5 @@
 -- `lines::month_lines::put_right` meets its contract: two fields and the last four numbers. Assumes nothing.
 use mathlib.Core.Path.{◌∙◌}
-use borrow.Author.Rules.{rules}
 use Rattle.lines.proofs.Texts.{right-put}
 use Rattle.lines.proofs.month_lines.put_right.Goals as goal
 

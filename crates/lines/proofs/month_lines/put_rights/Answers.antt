@@ -1,11 +1,5 @@
-use mathlib.Core.Path.{◌≡◌, refl, ◌∙◌}
-use Prim.Native.Nat.{◌-◌, ◌*◌, ◌≤◌}
+use mathlib.Core.Path.{refl, ◌∙◌}
 use native.Mathlib.Omega.{arith}
-use borrow.Author.Rules.{rules}
-use lib.ListN.{length}
-use Rattle.records.specs.Records.{rights_of}
-use Rattle.listing.specs.Listing.{right_lines}
-use Rattle.lines.specs.Putting.{Put}
 use Rattle.lines.proofs.Texts.{lines_none, lines_more, lines-all}
 use Rattle.lines.proofs.month_lines.put_rights.Goals as goal
 

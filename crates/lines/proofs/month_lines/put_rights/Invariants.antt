@@ -1,13 +1,10 @@
 -- `lines::month_lines::put_rights` meets its contract. The loop's invariant: the lines of the rights passed stand at the start, at most 126 bytes each. Assumes nothing.
-use mathlib.Core.Path.{◌≡◌, refl, ◌∙◌}
+use mathlib.Core.Path.{◌≡◌}
 use Prim.Native.Nat.{◌-◌, ◌*◌, ◌≤◌}
-use native.Mathlib.Omega.{arith}
-use borrow.Author.Rules.{rules}
 use lib.ListN.{length}
 use Rattle.records.specs.Records.{rights_of}
 use Rattle.listing.specs.Listing.{right_lines}
 use Rattle.lines.specs.Putting.{Put}
-use Rattle.lines.proofs.Texts.{lines_none, lines_more, lines-all}
 use Rattle.lines.proofs.month_lines.put_rights.Given as goal
 
 abbrev pub invariant-loop-i : goal.invariant-loop-i

@@ -1,6 +1,6 @@
 -- `lines::words::put_number` meets its contract. The measure is the number itself, which falls with each division. Assumes nothing.
 use mathlib.Core.Path.{refl}
-use Prim.Native.Nat.{ℕ, ◌/◌, ◌%◌, ◌<◌}
+use Prim.Native.Nat.{◌/◌, ◌%◌}
 use native.Mathlib.Omega.{arith}
 use borrow.Author.Rules.{rules}
 use Rattle.lines.proofs.Decimals.{more-long, four-long}

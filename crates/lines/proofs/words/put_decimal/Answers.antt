@@ -1,6 +1,5 @@
 -- `lines::words::put_decimal` meets its contract, which is that of both functions it calls. Assumes nothing.
 use native.Mathlib.Omega.{arith}
-use borrow.Author.Rules.{rules}
 use Rattle.lines.proofs.words.put_decimal.Goals as goal
 
 pub put_small-requires : goal.put_small-requires

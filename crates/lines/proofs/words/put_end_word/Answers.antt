@@ -1,6 +1,5 @@
 -- `lines::words::put_end_word` meets its contract. Assumes nothing.
 use native.Mathlib.Omega.{arith}
-use borrow.Author.Rules.{rules}
 use lib.ListN.{length-set}
 use Rattle.lines.proofs.Texts.{end-put}
 use Rattle.lines.proofs.words.put_end_word.Goals as goal

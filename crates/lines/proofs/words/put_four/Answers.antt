@@ -1,5 +1,4 @@
 -- `lines::words::put_four` meets its contract: four fields, one after the other. Assumes nothing.
-use borrow.Author.Rules.{rules}
 use Rattle.listing.specs.Listing.{decimal_text}
 use Rattle.lines.proofs.Texts.{word-then}
 use Rattle.lines.proofs.words.put_four.Goals as goal

@@ -1,6 +1,5 @@
 -- `lines::words::put_pair` meets its contract. Assumes nothing.
 use native.Mathlib.Omega.{arith}
-use borrow.Author.Rules.{rules}
 use lib.ListN.{length-set}
 use Rattle.lines.proofs.words.put_pair.Goals as goal
 

@@ -1,6 +1,5 @@
 -- `lines::words::put_small` meets its contract, for one digit and for two. Assumes nothing.
 use native.Mathlib.Omega.{arith}
-use borrow.Author.Rules.{rules}
 use Rattle.lines.proofs.Decimals.{one-long, two-long}
 use Rattle.lines.proofs.Texts.{put_one, put_two}
 use Rattle.lines.proofs.words.put_small.Goals as goal

@@ -1,7 +1,6 @@
 -- `lister::beginning::open_listing` meets its contract. Assumes nothing.
 use native.Mathlib.Omega.{arith}
 use Rattle.lister.proofs.Begun.{refused-open, accepted-open}
-use borrow.Author.Rules.{rules}
 use Rattle.lister.proofs.beginning.open_listing.Goals as goal
 
 pub returns-then-answer-ne0 : goal.returns-then-answer-ne0

@@ -1,5 +1,4 @@
 -- `lister::blocks::list_block` meets its contract. Assumes nothing.
-use borrow.Author.Tests.{not-true, not-false}
 use Rattle.lister.proofs.Cutting.{block-sheets, can-rest, block-all}
 use borrow.Author.Rules.{rules}
 use Rattle.lister.proofs.blocks.list_block.Goals as goal

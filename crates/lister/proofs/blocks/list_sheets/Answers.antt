@@ -1,10 +1,8 @@
-use mathlib.Core.Path.{◌≡◌, refl}
-use Prim.Native.Nat.{◌-◌, ◌≤◌}
+use mathlib.Core.Path.{refl}
 use native.Mathlib.Omega.{arith}
 use borrow.Author.Rules.{rules}
-use lib.ListN.{length}
 use borrow.Author.Tests.{not-false}
-use Rattle.lister.proofs.Cutting.{Sofar, sofar-none, can-step, sheets-end, sofar-more, sheets-ended, some_bytes, part_of}
+use Rattle.lister.proofs.Cutting.{sofar-none, can-step, sheets-end, sofar-more, sheets-ended, some_bytes, part_of}
 use Rattle.lister.proofs.blocks.list_sheets.Goals as goal
 
 pub loop-used-init : goal.loop-used-init

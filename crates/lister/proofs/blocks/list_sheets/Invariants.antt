@@ -1,11 +1,8 @@
 -- `lister::blocks::list_sheets` meets its contract. The loop's invariant: the sheets before `used` are listed. Assumes nothing.
-use mathlib.Core.Path.{◌≡◌, refl}
+use mathlib.Core.Path.{◌≡◌}
 use Prim.Native.Nat.{◌-◌, ◌≤◌}
-use native.Mathlib.Omega.{arith}
-use borrow.Author.Rules.{rules}
 use lib.ListN.{length}
-use borrow.Author.Tests.{not-false}
-use Rattle.lister.proofs.Cutting.{Sofar, sofar-none, can-step, sheets-end, sofar-more, sheets-ended, some_bytes, part_of}
+use Rattle.lister.proofs.Cutting.{Sofar}
 use Rattle.lister.proofs.blocks.list_sheets.Given as goal
 
 abbrev pub invariant-loop-used : goal.invariant-loop-used

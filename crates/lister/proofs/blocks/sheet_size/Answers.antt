@@ -1,7 +1,6 @@
 -- `lister::blocks::sheet_size` meets its contract. Assumes nothing.
 use native.Mathlib.Omega.{arith}
 use Rattle.records.proofs.Decoded.{file-rows}
-use borrow.Author.Rules.{rules}
 use Rattle.lister.proofs.blocks.sheet_size.Goals as goal
 
 pub returns : goal.returns

@@ -4,7 +4,6 @@ use native.Mathlib.Omega.{arith}
 use lib.Seq.{length-take-le}
 use Rattle.records.proofs.Decoded.{file-rows}
 use Rattle.lister.proofs.Lent.{few_rows, part-ended, part-short}
-use borrow.Author.Rules.{rules}
 use Rattle.lister.proofs.parts.list_part.Goals as goal
 
 pub returns-then-left-eq0 : goal.returns-then-left-eq0

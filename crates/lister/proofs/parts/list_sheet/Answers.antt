@@ -2,7 +2,6 @@
 use native.Mathlib.Omega.{arith}
 use lib.ListN.{length}
 use Rattle.lister.proofs.Lent.{may-go, sheet-refused, may-list, sheet-listed}
-use borrow.Author.Rules.{rules}
 use Rattle.lister.proofs.parts.list_sheet.Goals as goal
 
 pub run_sheet-answer-requires : goal.run_sheet-answer-requires

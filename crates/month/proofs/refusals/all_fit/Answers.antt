@@ -1,5 +1,4 @@
 -- `month::refusals::all_fit` meets its contract. Assumes nothing.
-use borrow.Author.Rules.{rules}
 use Rattle.month.proofs.Settling.{lists-bodies}
 use Rattle.month.proofs.refusals.all_fit.Goals as goal
 

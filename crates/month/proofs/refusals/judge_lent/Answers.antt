@@ -1,8 +1,6 @@
 -- `month::refusals::judge_lent` meets its contract. Assumes nothing.
-use borrow.Author.Rules.{rules}
 use mathlib.Core.Path.{sym, ◌∙◌}
 use native.Mathlib.Omega.{arith}
-use borrow.Author.Tests.{not-true, not-false}
 use Rattle.boards.proofs.Bodies.{counted, sized, possible-told}
 use Rattle.answers.proofs.Answers.{accepted-of, lent-file, lent-unfit, lent-impossible, lent-good}
 use Rattle.filecheck.proofs.Accepted.{accepted-facts}

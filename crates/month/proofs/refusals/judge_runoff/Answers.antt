@@ -1,11 +1,6 @@
-use mathlib.Core.Path.{◌≡◌, refl, ◌∙◌}
-use Prim.Native.Nat.{◌-◌, ◌≤◌}
+use mathlib.Core.Path.{refl, ◌∙◌}
 use native.Mathlib.Omega.{arith}
-use borrow.Author.Rules.{rules}
-use lib.ListN.{length}
-use Rattle.rules.specs.Tally.{over_limit, over_answer}
-use Rattle.answers.specs.Answers.{settled}
-use Rattle.month.proofs.Settling.{over_from, over-all, over-here, over-on, over_done}
+use Rattle.month.proofs.Settling.{over-all, over-here, over-on, over_done}
 use Rattle.month.proofs.refusals.judge_runoff.Goals as goal
 
 pub loop-row-init : goal.loop-row-init

@@ -1,11 +1,9 @@
-use mathlib.Core.Path.{◌≡◌, refl, ◌∙◌}
+use mathlib.Core.Path.{◌≡◌}
 use Prim.Native.Nat.{◌-◌, ◌≤◌}
-use native.Mathlib.Omega.{arith}
-use borrow.Author.Rules.{rules}
 use lib.ListN.{length}
 use Rattle.rules.specs.Tally.{over_limit, over_answer}
 use Rattle.answers.specs.Answers.{settled}
-use Rattle.month.proofs.Settling.{over_from, over-all, over-here, over-on, over_done}
+use Rattle.month.proofs.Settling.{over_from}
 use Rattle.month.proofs.refusals.judge_runoff.Given as goal
 
 abbrev pub invariant-loop-row : goal.invariant-loop-row

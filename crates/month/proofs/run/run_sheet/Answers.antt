@@ -1,5 +1,4 @@
 -- `month::run::run_sheet` meets its contract. Assumes nothing.
-use borrow.Author.Rules.{rules}
 use native.Mathlib.Omega.{arith}
 use Rattle.month.proofs.Going.{stays, may-run, goes}
 use Rattle.month.proofs.run.run_sheet.Goals as goal

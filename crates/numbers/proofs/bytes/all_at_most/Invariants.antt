@@ -1,14 +1,11 @@
 -- `numbers::bytes::all_at_most` meets its contract. The loop's invariant: all numbers passed are at most the limit. Assumes nothing.
-use mathlib.Core.Path.{◌≡◌, ap, ◌∙◌}
+use mathlib.Core.Path.{◌≡◌}
 use mathlib.Core.Bool.{Bool}
 use mathlib.Core.List.{List}
 use Prim.Native.Nat.{ℕ, ◌+◌, ◌-◌, ◌*◌, ◌≤◌}
-use native.Mathlib.Omega.{arith}
-use borrow.Author.Rules.{rules}
 use lib.Dec.{leb}
-use Rattle.general.specs.Tests.{◌and◌, all_to}
-use Rattle.general.proofs.Loops.{all_none, all_more, step-within}
-use Rattle.numbers.specs.Bytes.{le32_at, all_at_most}
+use Rattle.general.specs.Tests.{all_to}
+use Rattle.numbers.specs.Bytes.{le32_at}
 use Rattle.numbers.proofs.bytes.all_at_most.Given as goal
 
 -- number k is at most the limit

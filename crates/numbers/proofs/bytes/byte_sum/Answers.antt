@@ -1,11 +1,10 @@
-use mathlib.Core.Path.{◌≡◌, ap, ◌∙◌}
-use mathlib.Core.List.{List}
-use Prim.Native.Nat.{ℕ, ◌+◌, ◌-◌, ◌*◌, ◌≤◌}
+use mathlib.Core.Path.{ap, ◌∙◌}
+use Prim.Native.Nat.{ℕ, ◌+◌}
 use native.Mathlib.Omega.{arith}
 use borrow.Author.Rules.{rules}
 use Rattle.general.specs.Sums.{sum_to}
 use Rattle.general.proofs.Loops.{total-none, total-more, step-within}
-use Rattle.numbers.specs.Bytes.{byte_at, byte_sum}
+use Rattle.numbers.specs.Bytes.{byte_sum}
 use Rattle.numbers.proofs.bytes.byte_sum.Invariants.{byte}
 use Rattle.numbers.proofs.bytes.byte_sum.Goals as goal
 

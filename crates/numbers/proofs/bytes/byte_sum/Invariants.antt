@@ -1,12 +1,9 @@
 -- `numbers::bytes::byte_sum` meets its contract. The loop's invariant: the total is the sum of the bytes passed, and so at most 255 for each. Assumes nothing.
-use mathlib.Core.Path.{◌≡◌, ap, ◌∙◌}
+use mathlib.Core.Path.{◌≡◌}
 use mathlib.Core.List.{List}
 use Prim.Native.Nat.{ℕ, ◌+◌, ◌-◌, ◌*◌, ◌≤◌}
-use native.Mathlib.Omega.{arith}
-use borrow.Author.Rules.{rules}
 use Rattle.general.specs.Sums.{sum_to}
-use Rattle.general.proofs.Loops.{total-none, total-more, step-within}
-use Rattle.numbers.specs.Bytes.{byte_at, byte_sum}
+use Rattle.numbers.specs.Bytes.{byte_at}
 use Rattle.numbers.proofs.bytes.byte_sum.Given as goal
 
 abbrev pub byte : List ℕ → ℕ → ℕ → ℕ → ℕ

@@ -1,5 +1,4 @@
 -- `numbers::bytes::le16` meets its contract. Assumes nothing.
-use borrow.Author.Rules.{rules}
 use Rattle.numbers.specs.Bytes.{le16_at}
 use Rattle.numbers.proofs.bytes.le16.Goals as goal
 

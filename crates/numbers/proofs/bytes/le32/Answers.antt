@@ -2,7 +2,6 @@
 use mathlib.Core.List.{List}
 use mathlib.Core.Path.{◌≡◌}
 use Prim.Native.Nat.{ℕ, ◌+◌, ◌*◌}
-use borrow.Author.Rules.{rules}
 use Rattle.numbers.specs.Bytes.{byte_at, le32_at}
 use Rattle.numbers.proofs.bytes.le32.Goals as goal
 

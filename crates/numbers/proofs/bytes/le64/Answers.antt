@@ -1,5 +1,4 @@
 -- `numbers::bytes::le64` meets its contract. Assumes nothing.
-use borrow.Author.Rules.{rules}
 use Rattle.numbers.proofs.Words.{halves-read}
 use Rattle.numbers.proofs.bytes.le64.Goals as goal
 

@@ -1,6 +1,5 @@
 -- `numbers::bytes::put32` meets its contract. Assumes nothing.
 use native.Mathlib.Omega.{arith}
-use borrow.Author.Rules.{rules}
 use lib.ListN.{length-set}
 use Rattle.numbers.specs.Bytes.{bytes32}
 use Rattle.general.proofs.Parts.{four-stores}

@@ -1,6 +1,5 @@
 -- `numbers::bytes::put64` meets its contract. Assumes nothing.
 use native.Mathlib.Omega.{arith}
-use borrow.Author.Rules.{rules}
 use Rattle.numbers.proofs.Words.{two-halves}
 use Rattle.numbers.proofs.bytes.put64.Goals as goal
 

@@ -1,8 +1,7 @@
-use Prim.Native.Nat.{◌-◌, ◌≤◌}
 use native.Mathlib.Omega.{arith}
 use borrow.Author.Rules.{rules}
 use Rattle.opening.specs.Opening.{zeroed_at}
-use Rattle.opening.proofs.OpenedBoard.{Passed, passed-from, passed_to, passed-all, zeroed-before, zeroed-here, zeroed-after}
+use Rattle.opening.proofs.OpenedBoard.{passed-from, passed_to, passed-all, zeroed-before, zeroed-here, zeroed-after}
 use Rattle.opening.proofs.board.clear.Goals as goal
 
 pub loop-p-init : goal.loop-p-init

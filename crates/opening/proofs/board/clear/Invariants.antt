@@ -1,9 +1,7 @@
 -- `opening::board::clear` meets its contract. The loop's invariant: the places passed are done, the others as they were. Assumes nothing.
 use Prim.Native.Nat.{◌-◌, ◌≤◌}
-use native.Mathlib.Omega.{arith}
-use borrow.Author.Rules.{rules}
 use Rattle.opening.specs.Opening.{zeroed_at}
-use Rattle.opening.proofs.OpenedBoard.{Passed, passed-from, passed_to, passed-all, zeroed-before, zeroed-here, zeroed-after}
+use Rattle.opening.proofs.OpenedBoard.{Passed}
 use Rattle.opening.proofs.board.clear.Given as goal
 
 abbrev pub invariant-loop-p : goal.invariant-loop-p

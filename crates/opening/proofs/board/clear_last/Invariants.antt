@@ -1,13 +1,8 @@
 -- `opening::board::clear_last` meets its contract. The loop's invariant: the rows passed are done, the others as they were. Assumes nothing.
-use mathlib.Core.Path.{sym, subst}
-use Prim.Native.Nat.{ℕ, ◌+◌, ◌-◌, ◌≤◌}
-use native.Mathlib.Omega.{arith}
-use borrow.Author.Rules.{rules}
-use lib.ListN.{set}
-use Rattle.places.specs.Board.{dues_from, dues_of, due_place}
-use Rattle.places.proofs.BoardPlaces.{last-due, before_last}
+use Prim.Native.Nat.{◌-◌, ◌≤◌}
+use Rattle.places.specs.Board.{dues_of}
 use Rattle.opening.specs.Opening.{ended_at}
-use Rattle.opening.proofs.OpenedBoard.{Passed, passed-from, passed_to, passed-all, ended-before, ended_here, ended-else, ended-after}
+use Rattle.opening.proofs.OpenedBoard.{Passed}
 use Rattle.opening.proofs.board.clear_last.Given as goal
 
 abbrev pub invariant-loop-w : goal.invariant-loop-w

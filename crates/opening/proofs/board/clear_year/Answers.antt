@@ -1,8 +1,6 @@
 -- `opening::board::clear_year` meets its contract. Assumes nothing.
 use mathlib.Core.Path.{◌≡◌, sym, subst}
 use mathlib.Core.Bool.{Bool}
-use borrow.Author.Rules.{rules}
-use borrow.Author.Tests.{not-true, not-false}
 use Rattle.general.specs.Tables.{tab}
 use Rattle.places.specs.Board.{board_length}
 use Rattle.opening.specs.Opening.{cleared_at}

@@ -1,10 +1,10 @@
-use mathlib.Core.Path.{◌≡◌, ◌∙◌}
-use Prim.Native.Nat.{◌+◌, ◌-◌, ◌≤◌}
+use mathlib.Core.Path.{◌∙◌}
+use Prim.Native.Nat.{◌+◌}
 use native.Mathlib.Omega.{arith}
 use borrow.Author.Rules.{rules}
-use Rattle.places.specs.Board.{dues_from, dues_of}
+use Rattle.places.specs.Board.{dues_from}
 use Rattle.opening.specs.Opening.{moved_at}
-use Rattle.opening.proofs.OpenedBoard.{Passed, passed-from, passed_to, passed-all, moved_before, moved_here, moved-after}
+use Rattle.opening.proofs.OpenedBoard.{passed-from, passed_to, passed-all, moved_before, moved_here, moved-after}
 use Rattle.opening.proofs.board.move_dues.Goals as goal
 
 pub loop-p-init : goal.loop-p-init

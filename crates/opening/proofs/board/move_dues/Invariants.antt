@@ -1,11 +1,9 @@
 -- `opening::board::move_dues` meets its contract. The loop's invariant: the places passed are done, the others as they were. Assumes nothing.
-use mathlib.Core.Path.{◌≡◌, ◌∙◌}
-use Prim.Native.Nat.{◌+◌, ◌-◌, ◌≤◌}
-use native.Mathlib.Omega.{arith}
-use borrow.Author.Rules.{rules}
+use mathlib.Core.Path.{◌≡◌}
+use Prim.Native.Nat.{◌-◌, ◌≤◌}
 use Rattle.places.specs.Board.{dues_from, dues_of}
 use Rattle.opening.specs.Opening.{moved_at}
-use Rattle.opening.proofs.OpenedBoard.{Passed, passed-from, passed_to, passed-all, moved_before, moved_here, moved-after}
+use Rattle.opening.proofs.OpenedBoard.{Passed}
 use Rattle.opening.proofs.board.move_dues.Given as goal
 
 abbrev pub invariant-loop-p : goal.invariant-loop-p

@@ -1,6 +1,5 @@
 -- `opening::board::open_board` meets its contract. Assumes nothing.
 use Rattle.opening.proofs.OpenedBoard.{opened-is}
-use borrow.Author.Rules.{rules}
 use Rattle.opening.proofs.board.open_board.Goals as goal
 
 pub returns : goal.returns

@@ -1,10 +1,9 @@
 use Rattle.opening.specs.Opening.{inflow}
 use Rattle.places.specs.Board.{due_place}
 use mathlib.Core.List.{List}
-use Prim.Native.Nat.{ℕ, ◌+◌, ◌-◌, ◌≤◌}
+use Prim.Native.Nat.{ℕ, ◌+◌}
 use mathlib.Core.Path.{subst, ◌≡◌}
 use native.Mathlib.Omega.{arith}
-use borrow.Author.Rules.{rules}
 use lib.ListN.{get_or}
 use Rattle.opening.proofs.Openings.{Gathering, gathering-none, gathering-more, gathered-all, can-send}
 use Rattle.opening.proofs.flows.gather.Goals as goal

@@ -5,7 +5,6 @@ use native.Mathlib.Omega.{arith}
 use lib.ListN.{get_or}
 use Rattle.records.proofs.Table.{walk-on}
 use Rattle.opening.proofs.Sending.{next-still, sent-on, sent-last}
-use borrow.Author.Rules.{rules}
 use Rattle.opening.proofs.flows.send_down.Goals as goal
 
 pub overflow_add-x : goal.overflow_add-x

@@ -1,7 +1,6 @@
 -- `records::network::code` meets its contract. A row's number fits in a byte, since there are at most 64. Assumes nothing.
 use mathlib.Core.Path.{sym, ◌∙◌}
 use native.Mathlib.Omega.{arith}
-use borrow.Author.Rules.{rules}
 use Rattle.records.specs.Records.{stations_of}
 use Rattle.records.proofs.Rows.{rows_are}
 use Rattle.records.proofs.Table.{code_row, code-none}

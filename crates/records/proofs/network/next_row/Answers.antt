@@ -1,5 +1,4 @@
 -- `records::network::next_row` meets its contract. Assumes nothing.
-use borrow.Author.Rules.{rules}
 use Rattle.records.proofs.Table.{next-is, next-none}
 use Rattle.records.proofs.network.next_row.Goals as goal
 

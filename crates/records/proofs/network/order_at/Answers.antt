@@ -1,5 +1,4 @@
 -- `records::network::order_at` meets its contract. Assumes nothing.
-use borrow.Author.Rules.{rules}
 use Rattle.records.specs.Records.{station_record}
 use Rattle.records.proofs.network.order_at.Goals as goal
 

@@ -1,11 +1,7 @@
-use mathlib.Core.Path.{◌≡◌, refl, sym, ap, ◌∙◌}
-use Prim.Native.Nat.{ℕ, ◌+◌, ◌-◌, ◌≤◌}
+use mathlib.Core.Path.{refl, sym, ap, ◌∙◌}
+use Prim.Native.Nat.{ℕ, ◌+◌}
 use native.Mathlib.Omega.{arith}
-use borrow.Author.Rules.{rules}
-use Rattle.rules.specs.Path.{row_below}
-use Rattle.records.specs.Records.{rows_of, stations_of}
-use Rattle.records.specs.Network.{below_of}
-use Rattle.records.proofs.Rows.{below_from, below-start, below-same, below_less, below_on, below_none}
+use Rattle.records.proofs.Rows.{below-start, below-same, below_less, below_on, below_none}
 use Rattle.records.proofs.network.row_below.Goals as goal
 
 pub loop-later-init : goal.loop-later-init

@@ -1,12 +1,10 @@
 -- `records::network::row_below` meets its contract. The loop's invariant: the rows not yet looked at give the answer that is asked for. Assumes nothing.
-use mathlib.Core.Path.{◌≡◌, refl, sym, ap, ◌∙◌}
-use Prim.Native.Nat.{ℕ, ◌+◌, ◌-◌, ◌≤◌}
-use native.Mathlib.Omega.{arith}
-use borrow.Author.Rules.{rules}
+use mathlib.Core.Path.{◌≡◌}
+use Prim.Native.Nat.{◌-◌, ◌≤◌}
 use Rattle.rules.specs.Path.{row_below}
 use Rattle.records.specs.Records.{rows_of, stations_of}
 use Rattle.records.specs.Network.{below_of}
-use Rattle.records.proofs.Rows.{below_from, below-start, below-same, below_less, below_on, below_none}
+use Rattle.records.proofs.Rows.{below_from}
 use Rattle.records.proofs.network.row_below.Given as goal
 
 abbrev pub invariant-loop-later : goal.invariant-loop-later

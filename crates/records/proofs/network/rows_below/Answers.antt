@@ -1,10 +1,8 @@
-use mathlib.Core.Path.{◌≡◌, refl, ap, ◌∙◌}
-use Prim.Native.Nat.{◌-◌, ◌≤◌}
+use mathlib.Core.Path.{refl, ap, ◌∙◌}
 use native.Mathlib.Omega.{arith}
-use borrow.Author.Rules.{rules}
 use Rattle.general.proofs.Fill.{filled, fill_none, fill_more}
 use Rattle.rules.specs.Path.{row_below}
-use Rattle.records.specs.Records.{rows_of, stations_of}
+use Rattle.records.specs.Records.{stations_of}
 use Rattle.records.specs.Table.{below_code, table_of}
 use Rattle.records.proofs.Rows.{rows_are}
 use Rattle.records.proofs.network.rows_below.Goals as goal

@@ -1,13 +1,10 @@
 -- `records::network::rows_below` meets its contract. The loop's invariant: the first places hold the rows below. Assumes nothing.
-use mathlib.Core.Path.{◌≡◌, refl, ap, ◌∙◌}
+use mathlib.Core.Path.{◌≡◌}
 use Prim.Native.Nat.{◌-◌, ◌≤◌}
-use native.Mathlib.Omega.{arith}
-use borrow.Author.Rules.{rules}
-use Rattle.general.proofs.Fill.{filled, fill_none, fill_more}
+use Rattle.general.proofs.Fill.{filled}
 use Rattle.rules.specs.Path.{row_below}
 use Rattle.records.specs.Records.{rows_of, stations_of}
-use Rattle.records.specs.Table.{below_code, table_of}
-use Rattle.records.proofs.Rows.{rows_are}
+use Rattle.records.specs.Table.{below_code}
 use Rattle.records.proofs.network.rows_below.Given as goal
 
 abbrev pub invariant-loop-row : goal.invariant-loop-row

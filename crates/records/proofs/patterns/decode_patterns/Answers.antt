@@ -1,10 +1,8 @@
-use mathlib.Core.Path.{◌≡◌, refl, ap, ◌∙◌}
-use Prim.Native.Nat.{◌-◌, ◌≤◌}
+use mathlib.Core.Path.{refl, ap, ◌∙◌}
 use native.Mathlib.Omega.{arith}
-use borrow.Author.Rules.{rules}
 use lib.ListN.{replicate}
 use Rattle.general.proofs.Fill.{filled, fill_none, fill_more}
-use Rattle.records.specs.Records.{pattern_count, pattern_of}
+use Rattle.records.specs.Records.{pattern_of}
 use Rattle.records.specs.Table.{sums_of, sixteen_sums}
 use Rattle.records.proofs.patterns.decode_patterns.Goals as goal
 

@@ -1,12 +1,10 @@
 -- `records::patterns::decode_patterns` meets its contract. The loop's invariant: the first p places hold the sums of the file's patterns. Assumes nothing.
-use mathlib.Core.Path.{◌≡◌, refl, ap, ◌∙◌}
+use mathlib.Core.Path.{◌≡◌}
 use Prim.Native.Nat.{◌-◌, ◌≤◌}
-use native.Mathlib.Omega.{arith}
-use borrow.Author.Rules.{rules}
 use lib.ListN.{replicate}
-use Rattle.general.proofs.Fill.{filled, fill_none, fill_more}
+use Rattle.general.proofs.Fill.{filled}
 use Rattle.records.specs.Records.{pattern_count, pattern_of}
-use Rattle.records.specs.Table.{sums_of, sixteen_sums}
+use Rattle.records.specs.Table.{sums_of}
 use Rattle.records.proofs.patterns.decode_patterns.Given as goal
 
 abbrev pub invariant-loop-p : goal.invariant-loop-p

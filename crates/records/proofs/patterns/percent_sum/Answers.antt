@@ -2,7 +2,6 @@
 use mathlib.Core.Path.{sym, ap, ◌∙◌}
 use Prim.Native.Nat.{◌+◌, ◌*◌}
 use native.Mathlib.Omega.{arith}
-use borrow.Author.Rules.{rules}
 use Rattle.general.proofs.Sums.{sum_to-same}
 use Rattle.general.proofs.Tables.{sum-tab}
 use Rattle.numbers.specs.Bytes.{byte_at, byte_sum}

@@ -1,11 +1,11 @@
 use mathlib.Core.List.{List}
 use mathlib.Core.Path.{◌≡◌, ap, ◌∙◌}
-use Prim.Native.Nat.{ℕ, suc, ◌+◌, ◌-◌, ◌*◌, ◌≤◌, ◌<◌}
+use Prim.Native.Nat.{ℕ, suc, ◌+◌, ◌*◌, ◌<◌}
 use native.Mathlib.Omega.{arith}
 use borrow.Author.Rules.{rules}
 use lib.ListN.{get_or}
 use Rattle.general.specs.Sums.{up_to}
-use Rattle.general.proofs.Fill.{filled, fill_none, fill_more, fill_done}
+use Rattle.general.proofs.Fill.{fill_none, fill_more, fill_done}
 use Rattle.general.proofs.Loops.{total-none, total-more}
 use Rattle.general.proofs.Sums.{up_to-le}
 use Rattle.general.proofs.Tables.{tab-at}

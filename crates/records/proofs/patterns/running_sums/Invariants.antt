@@ -1,19 +1,10 @@
 -- `records::patterns::running_sums` meets its contract. The loop's invariant: the first k places hold their sums, and the sum so far is that of k percents.
 -- Assumes nothing.
-use mathlib.Core.List.{List}
-use mathlib.Core.Path.{◌≡◌, ap, ◌∙◌}
-use Prim.Native.Nat.{ℕ, suc, ◌+◌, ◌-◌, ◌*◌, ◌≤◌, ◌<◌}
-use native.Mathlib.Omega.{arith}
-use borrow.Author.Rules.{rules}
-use lib.ListN.{get_or}
+use mathlib.Core.Path.{◌≡◌}
+use Prim.Native.Nat.{suc, ◌-◌, ◌≤◌}
 use Rattle.general.specs.Sums.{up_to}
-use Rattle.general.proofs.Fill.{filled, fill_none, fill_more, fill_done}
-use Rattle.general.proofs.Loops.{total-none, total-more}
-use Rattle.general.proofs.Sums.{up_to-le}
-use Rattle.general.proofs.Tables.{tab-at}
-use Rattle.numbers.specs.Bytes.{byte_at}
-use Rattle.records.specs.Records.{percent_at, pattern_of}
-use Rattle.records.specs.Table.{sums_of}
+use Rattle.general.proofs.Fill.{filled}
+use Rattle.records.specs.Records.{pattern_of}
 use Rattle.records.proofs.patterns.running_sums.Given as goal
 
 abbrev pub invariant-loop-k : goal.invariant-loop-k

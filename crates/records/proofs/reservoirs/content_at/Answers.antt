@@ -1,5 +1,4 @@
 -- `records::reservoirs::content_at` meets its contract. Assumes nothing.
-use borrow.Author.Rules.{rules}
 use Rattle.records.specs.Records.{content_at}
 use Rattle.records.proofs.reservoirs.content_at.Goals as goal
 

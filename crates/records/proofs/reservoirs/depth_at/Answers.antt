@@ -1,5 +1,4 @@
 -- `records::reservoirs::depth_at` meets its contract. Assumes nothing.
-use borrow.Author.Rules.{rules}
 use Rattle.records.specs.Records.{depth_at}
 use Rattle.records.proofs.reservoirs.depth_at.Goals as goal
 

@@ -1,6 +1,5 @@
 -- `records::rights::kind_byte` meets its contract. Assumes nothing.
 use mathlib.Core.Path.{refl}
-use borrow.Author.Rules.{rules}
 use Rattle.records.specs.Records.{kind_byte}
 use Rattle.records.proofs.rights.kind_byte.Goals as goal
 

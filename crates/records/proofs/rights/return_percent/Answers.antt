@@ -1,6 +1,5 @@
 -- `records::rights::return_percent` meets its contract. Assumes nothing.
 use mathlib.Core.Path.{refl}
-use borrow.Author.Rules.{rules}
 use Rattle.records.specs.Records.{return_percent}
 use Rattle.records.proofs.rights.return_percent.Goals as goal
 

@@ -1,6 +1,5 @@
 -- `records::rights::return_row` meets its contract. Assumes nothing.
 use mathlib.Core.Path.{refl}
-use borrow.Author.Rules.{rules}
 use Rattle.records.specs.Records.{return_row}
 use Rattle.records.proofs.rights.return_row.Goals as goal
 

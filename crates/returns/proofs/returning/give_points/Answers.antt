@@ -1,13 +1,10 @@
-use Prim.Native.Nat.{ℕ, ◌+◌, ◌-◌, ◌*◌, ◌/◌, ◌≤◌, ◌<◌}
+use Prim.Native.Nat.{ℕ, ◌+◌, ◌-◌, ◌*◌, ◌/◌, ◌<◌}
 use mathlib.Core.Path.{◌≡◌, ap, ◌∙◌, subst}
-use mathlib.Core.List.{List}
 use native.Mathlib.Omega.{arith}
-use borrow.Author.Rules.{rules}
 use Rattle.rules.specs.Returns.{Part}
 use Rattle.general.proofs.Loops.{total-none, total-more}
 use Rattle.records.specs.Records.{return_row, return_percent}
-use Rattle.returns.specs.Dues.{Sums}
-use Rattle.returns.specs.Returning.{points_up_to, part_in, Gave}
+use Rattle.returns.specs.Returning.{part_in, Gave}
 use Rattle.returns.proofs.Shares.{split-le}
 use Rattle.returns.proofs.Points.{percents-in, next_small, amount-is, part-is, can-return, gave-none, gave-more, river-after}
 use Rattle.returns.proofs.returning.give_points.Goals as goal

@@ -2,7 +2,6 @@
 use Prim.Native.Nat.{ℕ}
 use mathlib.Core.Path.{sym, subst}
 use native.Mathlib.Omega.{arith}
-use borrow.Author.Rules.{rules}
 use Rattle.returns.specs.Returning.{Gave}
 use Rattle.returns.proofs.Points.{gave-none, gave-nothing}
 use Rattle.returns.proofs.returning.give_returns.Goals as goal

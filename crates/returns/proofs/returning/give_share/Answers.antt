@@ -1,5 +1,4 @@
 -- `returns::returning::give_share` meets its contract. Assumes nothing.
-use borrow.Author.Rules.{rules}
 use Rattle.records.specs.Table.{path_by}
 use Rattle.returns.proofs.Points.{put-nothing}
 use Rattle.returns.proofs.returning.give_share.Goals as goal

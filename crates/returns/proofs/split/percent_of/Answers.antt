@@ -3,7 +3,6 @@ use native.Mathlib.Nat.{mul-le-mul, mul_comm, mul_assoc}
 use mathlib.Core.Path.{◌≡◌, sym, ap, ◌∙◌}
 use Prim.Native.Nat.{ℕ, ◌*◌, ◌/◌, ◌≤◌, ◌<◌}
 use native.Mathlib.Omega.{arith}
-use borrow.Author.Rules.{rules}
 use Rattle.returns.proofs.split.percent_of.Goals as goal
 
 -- a product and a shift

@@ -1,7 +1,6 @@
 -- `returns::split::split` meets its contract. Assumes nothing.
 use mathlib.Core.Path.{refl, sym, subst}
 use Prim.Native.Nat.{ℕ}
-use borrow.Author.Rules.{rules}
 use Rattle.places.specs.Board.{dues_of}
 use Rattle.returns.specs.Dues.{CanSplit}
 use Rattle.returns.proofs.Shares.{split-nothing}

@@ -1,11 +1,7 @@
-use Rattle.returns.specs.Dues.{Sums, Lagged}
 use Rattle.returns.proofs.Shares.{sums-most, floors-rise, floor-le, not_last, lagged-none, lagged-more, lagged-le, split_done}
-use Prim.Native.Nat.{ℕ, ◌+◌, ◌-◌, ◌*◌, ◌/◌, ◌≤◌}
-use mathlib.Core.Path.{◌≡◌, refl, ap, ◌∙◌}
-use mathlib.Core.List.{List}
+use Prim.Native.Nat.{ℕ, ◌+◌, ◌*◌, ◌/◌}
+use mathlib.Core.Path.{refl, ap, ◌∙◌}
 use native.Mathlib.Omega.{arith}
-use borrow.Author.Rules.{rules}
-use lib.ListN.{get_or}
 use Rattle.returns.proofs.split.split_months.Goals as goal
 
 pub percent_of-at_once-requires : goal.percent_of-at_once-requires

@@ -1,11 +1,8 @@
 -- `returns::split::split_months` meets its contract. Assumes nothing.
 use Rattle.returns.specs.Dues.{Sums, Lagged}
-use Rattle.returns.proofs.Shares.{sums-most, floors-rise, floor-le, not_last, lagged-none, lagged-more, lagged-le, split_done}
-use Prim.Native.Nat.{ℕ, ◌+◌, ◌-◌, ◌*◌, ◌/◌, ◌≤◌}
-use mathlib.Core.Path.{◌≡◌, refl, ap, ◌∙◌}
+use Prim.Native.Nat.{ℕ, ◌-◌, ◌*◌, ◌/◌, ◌≤◌}
+use mathlib.Core.Path.{◌≡◌}
 use mathlib.Core.List.{List}
-use native.Mathlib.Omega.{arith}
-use borrow.Author.Rules.{rules}
 use lib.ListN.{get_or}
 use Rattle.returns.proofs.split.split_months.Given as goal
 

@@ -1,7 +1,6 @@
 -- `stock::months::short_months` meets its contract. Assumes nothing.
 use mathlib.Core.Path.{ap}
 use native.Mathlib.Omega.{arith}
-use borrow.Author.Rules.{rules}
 use lib.Count.{ones}
 use Rattle.places.proofs.BoardPlaces.{place_read}
 use Rattle.records.specs.Records.{right_count}

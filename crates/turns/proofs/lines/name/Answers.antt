@@ -2,7 +2,6 @@
 use mathlib.Core.Path.{sym, ap, ◌∙◌}
 use Rattle.turns.specs.State.{why_of, named_by}
 use Rattle.turns.specs.Lines.{reservoir_station}
-use borrow.Author.Rules.{rules}
 use Rattle.turns.proofs.lines.name.Goals as goal
 
 pub reservoir_station-requires : goal.reservoir_station-requires

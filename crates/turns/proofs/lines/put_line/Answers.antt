@@ -3,7 +3,6 @@ use Rattle.turns.specs.Lines.{line_of}
 use native.Mathlib.Omega.{arith}
 use Prim.Native.Nat.{◌+◌}
 use lib.ListN.{set, length-set}
-use borrow.Author.Rules.{rules}
 use Rattle.turns.proofs.lines.put_line.Goals as goal
 
 pub bounds-report-line-2 : goal.bounds-report-line-2

@@ -4,7 +4,6 @@ use native.Mathlib.Omega.{arith}
 use Rattle.records.specs.Records.{stations_of}
 use Rattle.rules.specs.Turn.{number_at}
 use Rattle.records.specs.declared.reservoirs.ReservoirRecord.{ReservoirRecord}
-use borrow.Author.Rules.{rules}
 use Rattle.turns.proofs.lines.reservoir_station.Goals as goal
 
 pub station_number-requires : goal.station_number-requires

@@ -1,9 +1,4 @@
-use Prim.Native.Nat.{◌-◌, ◌≤◌}
 use native.Mathlib.Omega.{arith}
-use borrow.Author.Rules.{rules}
-use Rattle.rules.specs.Basin.{Basin}
-use Rattle.turns.specs.State.{Setting}
-use Rattle.turns.specs.Lines.{ServedTo}
 use Rattle.turns.proofs.Facts.{rights-count}
 use Rattle.turns.proofs.AsRead.{within_same}
 use Rattle.turns.proofs.Lining.{served-none, served-more, served-all, line-ready}

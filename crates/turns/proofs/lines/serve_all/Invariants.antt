@@ -1,13 +1,8 @@
 -- `turns::lines::serve_all` meets its contract. Assumes nothing.
 use Prim.Native.Nat.{◌-◌, ◌≤◌}
-use native.Mathlib.Omega.{arith}
-use borrow.Author.Rules.{rules}
 use Rattle.rules.specs.Basin.{Basin}
 use Rattle.turns.specs.State.{Setting}
 use Rattle.turns.specs.Lines.{ServedTo}
-use Rattle.turns.proofs.Facts.{rights-count}
-use Rattle.turns.proofs.AsRead.{within_same}
-use Rattle.turns.proofs.Lining.{served-none, served-more, served-all, line-ready}
 use Rattle.turns.proofs.lines.serve_all.Given as goal
 
 abbrev pub invariant-loop-i : goal.invariant-loop-i

@@ -1,7 +1,6 @@
 -- `turns::lines::serve_line` meets its contract. Assumes nothing.
 use Prim.Native.Nat.{ℕ, ◌<◌}
 use mathlib.Core.Path.{refl, sym, ap, ◌∙◌, subst}
-use borrow.Author.Rules.{rules}
 use Rattle.records.specs.declared.rights.RightRecord.{RightRecord}
 use Rattle.records.specs.Records.{rows_of, reservoir_count}
 use Rattle.grants.specs.Stages.{home_row}

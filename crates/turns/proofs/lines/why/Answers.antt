@@ -1,7 +1,6 @@
 -- `turns::lines::why` meets its contract. Assumes nothing.
 use mathlib.Core.Path.{sym, ap}
 use Rattle.turns.specs.State.{why_of}
-use borrow.Author.Rules.{rules}
 use Rattle.turns.proofs.lines.why.Goals as goal
 
 pub returns-in-Met : goal.returns-in-Met

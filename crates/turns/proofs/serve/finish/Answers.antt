@@ -1,6 +1,5 @@
 -- `turns::serve::finish` meets its contract. Assumes nothing.
 use native.Mathlib.Omega.{arith}
-use borrow.Author.Rules.{rules}
 use Rattle.turns.proofs.Ending.{rest-fits, can-give, finished-short, finished-met}
 use Rattle.turns.proofs.serve.finish.Goals as goal
 

@@ -1,6 +1,5 @@
 -- `turns::serve::serve_right` meets its contract. Assumes nothing.
 use native.Mathlib.Omega.{arith}
-use borrow.Author.Rules.{rules}
 use Rattle.turns.proofs.Readying.{can-ask}
 use Rattle.turns.proofs.AsRead.{turn_in, the-turn, as_read, see-ok, part-ok, take-ok, fill-ok, draw-ok, finish-ok, after_turn}
 use Rattle.turns.proofs.Assembling.{turned}

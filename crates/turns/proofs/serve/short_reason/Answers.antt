@@ -1,6 +1,5 @@
 -- `turns::serve::short_reason` meets its contract. Assumes nothing.
 use mathlib.Core.Path.{◌≡◌, refl, sym, ap, subst}
-use borrow.Author.Rules.{rules}
 use Rattle.records.specs.declared.rights.Kind.{Kind}
 use mathlib.Core.Logic.{◌⊎◌, inl, inr}
 use Rattle.records.specs.declared.rights.Kind.TheVariants.{Direct, Instream, Storage}

@@ -2,10 +2,8 @@
 use mathlib.Core.Path.{ap, ◌∙◌}
 use mathlib.Core.List.{List}
 use Prim.Native.Nat.{ℕ}
-use native.Mathlib.Omega.{arith}
 use Rattle.rules.specs.Tally.{over_limit, over_answer}
 use Rattle.answers.specs.Answers.{settled}
-use borrow.Author.Rules.{rules}
 use Rattle.years.proofs.judging.judge_sheet.Goals as goal
 
 pub returns : goal.returns

@@ -1,12 +1,12 @@
-use mathlib.Core.Path.{◌≡◌, refl, ap, ◌∙◌}
-use Prim.Native.Nat.{ℕ, ◌-◌, ◌≤◌}
+use mathlib.Core.Path.{refl, ap, ◌∙◌}
+use Prim.Native.Nat.{ℕ}
 use native.Mathlib.Omega.{arith}
 use lib.ListN.{length}
 use borrow.Author.Rules.{rules}
 use Rattle.rules.specs.Tally.{over_limit, over_answer}
 use Rattle.sheets.specs.Sheets.{sheet_at}
 use Rattle.answers.specs.Answers.{settled}
-use Rattle.years.proofs.Sheets.{over_in, over-here, over-next, over-end}
+use Rattle.years.proofs.Sheets.{over-here, over-next, over-end}
 use Rattle.years.proofs.judging.judge_sheets.Goals as goal
 
 pub loop-k-init : goal.loop-k-init

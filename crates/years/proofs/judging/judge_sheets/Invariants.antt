@@ -1,13 +1,8 @@
 -- `years::judging::judge_sheets` meets its contract. The loop's invariant: the sheets not yet looked at give the answer. Assumes nothing.
-use mathlib.Core.Path.{◌≡◌, refl, ap, ◌∙◌}
-use Prim.Native.Nat.{ℕ, ◌-◌, ◌≤◌}
-use native.Mathlib.Omega.{arith}
+use mathlib.Core.Path.{◌≡◌}
+use Prim.Native.Nat.{◌-◌, ◌≤◌}
 use lib.ListN.{length}
-use borrow.Author.Rules.{rules}
-use Rattle.rules.specs.Tally.{over_limit, over_answer}
-use Rattle.sheets.specs.Sheets.{sheet_at}
-use Rattle.answers.specs.Answers.{settled}
-use Rattle.years.proofs.Sheets.{over_in, over-here, over-next, over-end}
+use Rattle.years.proofs.Sheets.{over_in}
 use Rattle.years.proofs.judging.judge_sheets.Given as goal
 
 abbrev pub invariant-loop-k : goal.invariant-loop-k

@@ -3,7 +3,6 @@ use mathlib.Core.Path.{◌∙◌}
 use native.Mathlib.Omega.{arith}
 use lib.ListN.{length}
 use Rattle.years.proofs.Sheets.{sheet-within, sheet-part}
-use borrow.Author.Rules.{rules}
 use Rattle.years.proofs.judging.read_sheet.Goals as goal
 
 pub overflow_mul-at : goal.overflow_mul-at

@@ -1,13 +1,11 @@
 -- `years::run::judge_lists` meets its contract. Assumes nothing.
 use mathlib.Core.Path.{sym, ◌∙◌}
-use borrow.Author.Tests.{not-true, not-false}
 use Rattle.records.specs.Records.{basin_of}
 use Rattle.filecheck.proofs.Accepted.{accepted-facts}
 use Rattle.boards.proofs.Bodies.{counted, sized, possible-told}
 use Rattle.answers.proofs.Answers.{lent-unfit, lent-impossible, lent-good}
 use Rattle.years.specs.Years.{run_fits}
 use Rattle.years.proofs.Runs.{run-fits-told, run-fits-parts}
-use borrow.Author.Rules.{rules}
 use Rattle.years.proofs.run.judge_lists.Goals as goal
 
 pub run_fits-requires : goal.run_fits-requires

@@ -11,7 +11,6 @@ use Rattle.boards.proofs.Bounds.{month-most}
 use Rattle.book.proofs.LookUp.{found, not_found}
 use Rattle.years.proofs.Sheets.{read_by}
 use Rattle.years.proofs.Runs.{judged-missing, judged-found}
-use borrow.Author.Rules.{rules}
 use Rattle.years.proofs.run.judge_year.Goals as goal
 
 pub returns-then-body-eq0 : goal.returns-then-body-eq0

@@ -6,7 +6,6 @@ use Rattle.records.specs.Records.{basin_of}
 use Rattle.answers.proofs.Answers.{lent-clear}
 use Rattle.years.specs.Years.{run_fits}
 use Rattle.years.proofs.Runs.{body-unfit, counted-here, can-through, body-went}
-use borrow.Author.Rules.{rules}
 use Rattle.years.proofs.run.run_body.Goals as goal
 
 pub returns-then-on_lists-ne0 : goal.returns-then-on_lists-ne0

@@ -1,6 +1,5 @@
 -- `years::run::run_fits` meets its contract. Assumes nothing.
 use Rattle.years.proofs.Runs.{run-fits-bodies}
-use borrow.Author.Rules.{rules}
 use Rattle.years.proofs.run.run_fits.Goals as goal
 
 pub returns : goal.returns

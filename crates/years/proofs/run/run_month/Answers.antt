@@ -1,6 +1,5 @@
 -- `years::run::run_month` meets its contract. Assumes nothing.
 use Rattle.years.proofs.Rest.{can-read, can-run, ran-same}
-use borrow.Author.Rules.{rules}
 use Rattle.years.proofs.run.run_month.Goals as goal
 
 pub read_sheet-requires : goal.read_sheet-requires

@@ -1,9 +1,6 @@
 use Prim.Native.Nat.{◌+◌, ◌-◌}
 use native.Mathlib.Omega.{arith}
-use lib.ListN.{length}
-use borrow.Author.Rules.{rules}
-use Rattle.records.specs.Records.{bodies}
-use Rattle.years.proofs.Rest.{Going, begins, fits, can-month, goes_on_lem, ends}
+use Rattle.years.proofs.Rest.{begins, fits, can-month, goes_on_lem, ends}
 use Rattle.years.proofs.run.run_rest.Goals as goal
 
 pub loop-k-init : goal.loop-k-init

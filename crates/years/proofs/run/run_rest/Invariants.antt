@@ -1,10 +1,8 @@
 -- `years::run::run_rest` meets its contract. The loop's invariant: what the months to come leave is what all of them leave. Assumes nothing.
-use Prim.Native.Nat.{◌+◌, ◌-◌}
-use native.Mathlib.Omega.{arith}
+use Prim.Native.Nat.{◌-◌}
 use lib.ListN.{length}
-use borrow.Author.Rules.{rules}
 use Rattle.records.specs.Records.{bodies}
-use Rattle.years.proofs.Rest.{Going, begins, fits, can-month, goes_on_lem, ends}
+use Rattle.years.proofs.Rest.{Going}
 use Rattle.years.proofs.run.run_rest.Given as goal
 
 abbrev pub invariant-loop-k : goal.invariant-loop-k

@@ -1,7 +1,6 @@
 -- `years::run::run_through` meets its contract. Assumes nothing.
 use native.Mathlib.Omega.{arith}
 use Rattle.years.proofs.Runs.{month-in, may_read, over-told, can-rest, run-told}
-use borrow.Author.Rules.{rules}
 use Rattle.years.proofs.run.run_through.Goals as goal
 
 pub in_year-m-requires : goal.in_year-m-requires

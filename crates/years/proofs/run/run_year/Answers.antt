@@ -5,7 +5,6 @@ use Prim.Native.Nat.{ℕ}
 use lib.ListN.{length}
 use Rattle.book.proofs.LookUp.{found, not_found}
 use Rattle.years.proofs.Runs.{year-refused, year-made}
-use borrow.Author.Rules.{rules}
 use Rattle.years.proofs.run.run_year.Goals as goal
 
 pub returns-then-body-eq0 : goal.returns-then-body-eq0
