@@ -1,61 +1,75 @@
 // Reading that tells a failure from the end of the input, and writing that an interruption does not end.
-ghost use Rattle.std.specs.Prelude.{◌≡◌, ◌+◌, ◌≤◌, length};
-ghost use Rattle.io.specs.Counts.{IsPrefixLen};
+#![tactic(auto)]
 
-// How many bytes were read, and whether a read failed after them: then errno says why.
+ghost use Rattle.std.specs.Prelude.{◌≡◌, ◌+◌, ◌≤◌, length, IfOk};
+ghost use Rattle.files.specs.Counts.{IsPrefixLen};
+
+use std::io;
+use std::io::{ErrorKind, Read, Write};
+use std::rt::Files;
+
+pub mod buffers;
+pub mod reasons;
+pub mod words;
+
+use reasons::fail;
+
+// How many bytes were read, and why a read failed after them, if one did.
 #[derive(Drop)]
 pub struct Filled {
     pub count: usize,
-    pub failed: bool,
+    pub failure: Option<io::Error>,
 }
 
 // One read. Where a signal interrupts it before a byte has moved it is tried again; the tries are counted, since a proved loop has to end.
-// After a failing read nothing is called but the look at errno, so errno is still the read's own.
-fn read_some(fd: i32, buf: &mut [u8]) -> Filled
+fn read_some<F: Read>(file: &mut F, buf: &mut [u8]) -> Filled
     ensures { IsPrefixLen result.count buf.new }
 {
-    let mut tries = 18446744073709551615u64;
-    while tries > 0 {
-        let got = libc::read(fd, buf);
-        if got >= 0 {
-            let count = io::count(got, buf);
-            return Filled {
-                count: count,
-                failed: false,
-            };
+    for _ in 0..u64::MAX {
+        match file.read(buf) {
+            Ok(count) => {
+                return Filled {
+                    count: count,
+                    failure: None,
+                };
+            }
+            Err(e) => {
+                if e.kind() != ErrorKind::Interrupted {
+                    return Filled {
+                        count: 0,
+                        failure: Some(e),
+                    };
+                }
+            }
         }
-        if os::errno() != libc::EINTR {
-            break;
-        }
-        tries -= 1;
     }
     Filled {
         count: 0,
-        failed: true,
+        failure: Some(io::Error::from(ErrorKind::Interrupted)),
     }
 }
 
 // One read into the rest of buf.
-fn read_on(fd: i32, buf: &mut [u8], from: usize) -> Filled
+fn read_on<F: Read>(file: &mut F, buf: &mut [u8], from: usize) -> Filled
     requires { from ≤ length buf.old }
     ensures { from + result.count ≤ length buf.old }
 {
     let rest = &mut buf[from..];
-    read_some(fd, rest)
+    read_some(file, rest)
 }
 
 // Reads until buf is full, the input ends or a read fails. Without a failure a count below buf's length is the whole of the input.
-pub fn fill(fd: i32, buf: &mut [u8]) -> Filled
+pub fn fill<F: Read>(file: &mut F, buf: &mut [u8]) -> Filled
     ensures prefix_len { IsPrefixLen result.count buf.new }
     ensures buf_len_unchanged { length buf.new ≡ length buf.old }
 {
     let mut done = 0;
     while done < buf.len() {
-        let more = read_on(fd, buf, done);
-        if more.failed {
+        let more = read_on(file, buf, done);
+        if more.failure.is_some() {
             return Filled {
                 count: done,
-                failed: true,
+                failure: more.failure,
             };
         }
         if more.count == 0 {
@@ -65,58 +79,65 @@ pub fn fill(fd: i32, buf: &mut [u8]) -> Filled
     }
     Filled {
         count: done,
-        failed: false,
+        failure: None,
+    }
+}
+
+// A file, open to be read. The system's paths are text: a name that is none names no file.
+pub fn open_read<R: Files>(rt: &R, path: &[u8]) -> io::Result<R::File> {
+    match std::str::from_utf8(path) {
+        Ok(name) => std::fs::open(rt, name),
+        Err(_) => Err(io::Error::from(ErrorKind::InvalidFilename)),
     }
 }
 
 // The bytes of a file, as far as there is room for them. A file that can't be opened or read counts as empty, and the reason goes to standard
 // error.
-pub fn read_whole(path: &[u8], buf: &mut [u8]) -> usize
+pub fn read_whole<R: Files + Eprint>(rt: &R, path: &[u8], buf: &mut [u8]) -> usize
     ensures { IsPrefixLen result buf.new }
 {
-    let fd = os::open_read(path);
-    if fd < 0 {
-        os::fail(path);
+    let mut file = match open_read(rt, path) {
+        Ok(file) => file,
+        Err(e) => {
+            fail(rt, path, e);
+            return 0;
+        }
+    };
+    let filled = fill(&mut file, buf);
+    if let Some(e) = filled.failure {
+        fail(rt, path, e);
         return 0;
     }
-    let filled = fill(fd, buf);
-    if filled.failed {
-        os::fail(path);
-        libc::close(fd);
-        return 0;
-    }
-    libc::close(fd);
     filled.count
 }
 
-// One write of the bytes from a place on, tried again where a signal interrupts it. 0: nothing could be written, and errno says why.
-fn write_some(fd: i32, bytes: &[u8]) -> usize
-    ensures { IsPrefixLen result bytes.now }
+// One write of the bytes from a place on, tried again where a signal interrupts it.
+fn write_some<W: Write>(to: &mut W, bytes: &[u8]) -> io::Result<usize>
+    ensures { IfOk result (λ n. IsPrefixLen n bytes.now) }
 {
-    let mut tries = 18446744073709551615u64;
-    while tries > 0 {
-        let put = libc::write(fd, bytes);
-        if put >= 0 {
-            return io::count(put, bytes);
+    for _ in 0..u64::MAX {
+        match to.write(bytes) {
+            Ok(count) => return Ok(count),
+            Err(e) => {
+                if e.kind() != ErrorKind::Interrupted {
+                    return Err(e);
+                }
+            }
         }
-        if os::errno() != libc::EINTR {
-            break;
-        }
-        tries -= 1;
     }
-    0
+    Err(io::Error::from(ErrorKind::Interrupted))
 }
 
-// Writes all of the bytes. Answers false at the first write that moves nothing: then errno says why.
-pub fn send(fd: i32, bytes: &[u8]) -> bool {
+// Writes all of the bytes. Fails at the first write that moves nothing.
+pub fn send<W: Write>(to: &mut W, bytes: &[u8]) -> io::Result<()> {
     let n = bytes.len();
     let mut done = 0;
     while done < n {
-        let put = write_some(fd, &bytes[done..]);
+        let put = write_some(to, &bytes[done..])?;
         if put == 0 {
-            return false;
+            return Err(io::Error::from(ErrorKind::WriteZero));
         }
         done += put;
     }
-    true
+    Ok(())
 }
