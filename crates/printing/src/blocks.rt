@@ -24,7 +24,8 @@ fn used_up(last: bool, left: usize, size: usize) -> bool
 }
 
 // Lists what was read, with a write wherever a month more might not fit into the list of text.
-pub fn list_read(
+pub fn list_read<R: Print + Eprint>(
+    rt: &R,
     file: &[u8],
     size: usize,
     block: &[u8],
@@ -47,7 +48,7 @@ pub fn list_read(
                 written: true,
             };
         }
-        let room = make_room(p.at, out);
+        let room = make_room(rt, p.at, out);
         if !room.written {
             return Sent {
                 progress: p,

@@ -2,17 +2,20 @@
 ghost use Rattle.std.specs.Prelude.{◌+◌, ◌≤◌, length};
 ghost use Rattle.lines.specs.Putting.{most_text};
 
+use files::reasons::fail;
 use files::send;
-use libc::STDOUT_FILENO;
-use lines::month_lines::MOST_TEXT;
+use lines::month::MOST_TEXT;
+use std::io;
 
 // Writes a text. Where it can't be written the reason goes to standard error.
-pub fn write(text: &[u8]) -> bool {
-    if !send(STDOUT_FILENO, text) {
-        os::fail(b"standard output");
-        return false;
+pub fn write<R: Print + Eprint>(rt: &R, text: &[u8]) -> bool {
+    match send(&mut io::writer(rt), text) {
+        Ok(()) => true,
+        Err(e) => {
+            fail(rt, b"standard output", e);
+            false
+        }
     }
-    true
 }
 
 // Where the next text goes, and whether all that had to be written was.
@@ -23,7 +26,7 @@ pub struct Room {
 }
 
 // Room for one month more: where it might not fit, what the list holds is written.
-pub fn make_room(at: usize, out: &[u8]) -> Room
+pub fn make_room<R: Print + Eprint>(rt: &R, at: usize, out: &[u8]) -> Room
     requires { (at ≤ length out.now) × (most_text ≤ length out.now) }
     ensures { result.at + most_text ≤ length out.now }
 {
@@ -35,6 +38,6 @@ pub fn make_room(at: usize, out: &[u8]) -> Room
     }
     Room {
         at: 0,
-        written: write(&out[..at]),
+        written: write(rt, &out[..at]),
     }
 }

@@ -1,37 +1,37 @@
 // Lines that tell a call and what it answered.
 use answers::Answer;
-use libc::STDOUT_FILENO;
+use std::io;
 use stock::stock;
 
 // A number after what stands in the line.
-pub fn say_number(n: u64) {
-    io::write_all(STDOUT_FILENO, b" ");
-    io::print_decimal(STDOUT_FILENO, n);
+pub fn say_number<R: Print>(rt: &R, n: u64) -> io::Result<()> {
+    rt.write_all(b" ")?;
+    rt.print(n)
 }
 
-pub fn say_answer(answer: Answer) {
-    say_number(answer.number);
-    say_number(answer.place);
+pub fn say_answer<R: Print>(rt: &R, answer: Answer) -> io::Result<()> {
+    say_number(rt, answer.number)?;
+    say_number(rt, answer.place)
 }
 
-pub fn say_end() {
-    io::write_all(STDOUT_FILENO, b"\n");
+pub fn say_end<R: Print>(rt: &R) -> io::Result<()> {
+    rt.write_all(b"\n")
 }
 
 // What was called, and its answer.
-pub fn say(what: &[u8], answer: Answer) {
-    io::write_all(STDOUT_FILENO, what);
-    say_answer(answer);
-    say_end();
+pub fn say<R: Print>(rt: &R, what: &[u8], answer: Answer) -> io::Result<()> {
+    rt.write_all(what)?;
+    say_answer(rt, answer)?;
+    say_end(rt)
 }
 
 // The stock of a board.
-pub fn say_stock(file: &[u8], board: &[u64]) {
+pub fn say_stock<R: Print>(rt: &R, file: &[u8], board: &[u64]) -> io::Result<()> {
     let sums = stock(file, board);
-    io::write_all(STDOUT_FILENO, b"stock");
-    say_number(sums.number);
-    say_number(sums.place);
-    say_number(sums.storage);
-    say_number(sums.due);
-    say_end();
+    rt.write_all(b"stock")?;
+    say_number(rt, sums.number)?;
+    say_number(rt, sums.place)?;
+    say_number(rt, sums.storage)?;
+    say_number(rt, sums.due)?;
+    say_end(rt)
 }

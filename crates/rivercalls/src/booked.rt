@@ -3,56 +3,69 @@
 use book::find::find_year;
 use places::board::{BOARD_LENGTH, MONTH};
 use printing::saying::{say, say_stock};
+use std::io;
 use years::run::run_year;
 
 // Refusals 1, 9 and 10.
-fn look_up(file: &[u8], book: &[u8]) {
-    say(b"year, no file:", find_year(&file[..0], book, 1889));
-    say(b"year, no book:", find_year(file, &book[..0], 1889));
-    say(b"year 1888:", find_year(file, book, 1888));
-    say(b"year 1889:", find_year(file, book, 1889));
+fn look_up<R: Print>(rt: &R, file: &[u8], book: &[u8]) -> io::Result<()> {
+    say(rt, b"year, no file:", find_year(&file[..0], book, 1889))?;
+    say(rt, b"year, no book:", find_year(file, &book[..0], 1889))?;
+    say(rt, b"year 1888:", find_year(file, book, 1888))?;
+    say(rt, b"year 1889:", find_year(file, book, 1889))
 }
 
 // Twelve reports have 336 numbers. Refusals 9 and 10 come before 6, and 6 before 8.
-fn short_lists(file: &[u8], book: &[u8], board: &mut [u64]) {
+fn short_lists<R: Print>(rt: &R, file: &[u8], book: &[u8], board: &mut [u64]) -> io::Result<()> {
     let mut few = [0u64; 335];
     say(
+        rt,
         b"run of 1888, list of 335:",
         run_year(file, book, 1888, board, &mut few),
-    );
+    )?;
     say(
+        rt,
         b"run, no book, list of 335:",
         run_year(file, &book[..0], 1889, board, &mut few),
-    );
+    )?;
     say(
+        rt,
         b"run of 1890, list of 335:",
         run_year(file, book, 1890, board, &mut few),
-    );
+    )
 }
 
 // Refusal 7 comes before 8.
-fn refused_runs(file: &[u8], book: &[u8], board: &mut [u64], reports: &mut [u64]) {
+fn refused_runs<R: Print>(
+    rt: &R,
+    file: &[u8],
+    book: &[u8],
+    board: &mut [u64],
+    reports: &mut [u64],
+) -> io::Result<()> {
     let mut thirteenth = [0u64; BOARD_LENGTH];
     thirteenth[MONTH] = 12;
     say(
+        rt,
         b"run of 1890, board of a thirteenth month:",
         run_year(file, book, 1890, &mut thirteenth, reports),
-    );
+    )?;
     say(
+        rt,
         b"run of 1890, March over the limit:",
         run_year(file, book, 1890, board, reports),
-    );
-    say_stock(file, board);
+    )?;
+    say_stock(rt, file, board)
 }
 
-pub fn call(file: &[u8], book: &[u8], board: &mut [u64]) {
+pub fn call<R: Print>(rt: &R, file: &[u8], book: &[u8], board: &mut [u64]) -> io::Result<()> {
     let mut reports = [0u64; 336];
-    look_up(file, book);
-    short_lists(file, book, board);
-    refused_runs(file, book, board, &mut reports);
+    look_up(rt, file, book)?;
+    short_lists(rt, file, book, board)?;
+    refused_runs(rt, file, book, board, &mut reports)?;
     say(
+        rt,
         b"run of 1889, from November:",
         run_year(file, book, 1889, board, &mut reports),
-    );
-    say_stock(file, board);
+    )?;
+    say_stock(rt, file, board)
 }

@@ -5,83 +5,94 @@ use fresh::fresh;
 use month::month;
 use places::board::{BOARD_LENGTH, MONTH, WORDS};
 use printing::saying::say;
+use std::io;
 use stock::months::short_months;
 use years::run::run_year;
 
 // Refusals 1, 6 and 7; the last for a board of a thirteenth month.
-fn refused(file: &[u8]) {
+fn refused<R: Print>(rt: &R, file: &[u8]) -> io::Result<()> {
     let mut thirteenth = [0u64; BOARD_LENGTH];
     thirteenth[MONTH] = 12;
     say_months(
+        rt,
         b"short months, no file:",
         short_months(&file[..0], &thirteenth, 0),
-    );
+    )?;
     say_months(
+        rt,
         b"short months, board of 1225:",
         short_months(file, &thirteenth[1..], 0),
-    );
+    )?;
     say_months(
+        rt,
         b"short months, board of a thirteenth month:",
         short_months(file, &thirteenth, 0),
-    );
+    )
 }
 
 // Refusal 7 for words: the first right's with a bit more than twelve months have, and a word of a right that October lacks.
-fn wrong_words(file: &[u8]) {
+fn wrong_words<R: Print>(rt: &R, file: &[u8]) -> io::Result<()> {
     let mut board = [0u64; BOARD_LENGTH];
     let mut report = [0u64; 28];
     fresh(file, &mut board);
     board[WORDS] = 4096;
     say_months(
+        rt,
         b"short months, a bit above September's:",
         short_months(file, &board, 0),
-    );
+    )?;
     say(
+        rt,
         b"month, a bit above September's:",
         month(file, &[2000, 700, 300], &mut board, &mut report),
-    );
+    )?;
     board[WORDS] = 0;
     board[WORDS + 5] = 1;
     say_months(
+        rt,
         b"short months, a word of right 5:",
         short_months(file, &board, 0),
-    );
+    )
 }
 
 // Each of the five rights.
-fn count(file: &[u8], board: &[u64]) {
+fn count<R: Print>(rt: &R, file: &[u8], board: &[u64]) -> io::Result<()> {
     for right in 0..5 {
-        say_right(right, short_months(file, board, right));
+        say_right(rt, right, short_months(file, board, right))?;
     }
+    Ok(())
 }
 
 // A right that the basin lacks was never short.
-fn no_right(file: &[u8], board: &[u64]) {
+fn no_right<R: Print>(rt: &R, file: &[u8], board: &[u64]) -> io::Result<()> {
     let last = 18446744073709551615;
-    say_right(5, short_months(file, board, 5));
-    say_right(last, short_months(file, board, last));
+    say_right(rt, 5, short_months(file, board, 5))?;
+    say_right(rt, last, short_months(file, board, last))
 }
 
-pub fn call(file: &[u8], book: &[u8]) {
+pub fn call<R: Print>(rt: &R, file: &[u8], book: &[u8]) -> io::Result<()> {
     let mut board = [0u64; BOARD_LENGTH];
     let mut reports = [0u64; 336];
-    refused(file);
-    wrong_words(file);
+    refused(rt, file)?;
+    wrong_words(rt, file)?;
     fresh(file, &mut board);
     say(
+        rt,
         b"October of 1889:",
         month(file, &[2000, 700, 300], &mut board, &mut reports),
-    );
-    count(file, &board);
-    no_right(file, &board);
+    )?;
+    count(rt, file, &board)?;
+    no_right(rt, file, &board)?;
     say(
+        rt,
         b"run of 1889, from November:",
         run_year(file, book, 1889, &mut board, &mut reports),
-    );
-    count(file, &board);
+    )?;
+    count(rt, file, &board)?;
     say(
+        rt,
         b"October of 1890:",
         month(file, &[2000, 700, 300], &mut board, &mut reports),
-    );
-    count(file, &board);
+    )?;
+    count(rt, file, &board)
 }

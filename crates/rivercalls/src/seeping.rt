@@ -6,6 +6,7 @@ use month::month;
 use places::board::BOARD_LENGTH;
 use places::report::deep_place;
 use printing::saying::{say, say_stock};
+use std::io;
 
 // October's only pattern begins at byte 124.
 const PATTERN: usize = 124;
@@ -21,28 +22,29 @@ fn set_percents(file: &mut [u8], first: u8, second: u8, third: u8) {
 }
 
 // The month from the fresh board: its answer and, where it is accepted, what went deep, and what it leaves.
-fn run(file: &[u8], what: &[u8]) {
+fn run<R: Print>(rt: &R, file: &[u8], what: &[u8]) -> io::Result<()> {
     let mut board = [0u64; BOARD_LENGTH];
     let mut report = [0u64; 28];
     fresh(file, &mut board);
     let answer = month(file, &[2000, 700, 300], &mut board, &mut report);
     let number = answer.number;
-    say(what, answer);
+    say(rt, what, answer)?;
     if number == 0 {
-        say_one(b"deep", report[deep_place(5, 3, 1)]);
-        say_stock(file, &board);
+        say_one(rt, b"deep", report[deep_place(5, 3, 1)])?;
+        say_stock(rt, file, &board)?;
     }
+    Ok(())
 }
 
-pub fn call(file: &mut [u8]) {
+pub fn call<R: Print>(rt: &R, file: &mut [u8]) -> io::Result<()> {
     set_percents(file, 50, 30, 20);
-    run(file, b"month by 50, 30, 20:");
+    run(rt, file, b"month by 50, 30, 20:")?;
     set_percents(file, 50, 30, 0);
-    run(file, b"month by 50, 30:");
+    run(rt, file, b"month by 50, 30:")?;
     set_percents(file, 0, 0, 0);
-    run(file, b"month by zeros:");
+    run(rt, file, b"month by zeros:")?;
     set_percents(file, 50, 30, 21);
-    run(file, b"month by 50, 30, 21:");
+    run(rt, file, b"month by 50, 30, 21:")?;
     set_percents(file, 255, 100, 1);
-    run(file, b"month by 255, 100, 1:");
+    run(rt, file, b"month by 255, 100, 1:")
 }

@@ -1,83 +1,79 @@
 // Checks the basin files that its arguments name, and prints a line for each: accepted, or refused with the number of document 01 and the
 // first record at fault. A file that cannot be read is said to be that and never judged; the reason goes to standard error.
+#![tactic(auto)]
+
 use answers::{Answer, judge_file};
-use files::fill;
-use libc::STDOUT_FILENO;
+use files::buffers::{buffer, large_buffer};
+use files::reasons::fail;
+use files::words::{word, word_count};
+use files::{fill, open_read};
+use std::io;
+use std::rt::{Env, Files};
 
-// The functions that print answer whether all could be written.
-fn print_line(path: &[u8], said: &[u8]) -> bool {
-    if !io::write_all(STDOUT_FILENO, path) {
-        return false;
-    }
-    io::write_all(STDOUT_FILENO, said)
+// The functions that print fail where not all could be written.
+fn print_line<R: Print>(rt: &R, path: &[u8], said: &[u8]) -> io::Result<()> {
+    rt.write_all(path)?;
+    rt.write_all(said)
 }
 
-fn print_refusal(path: &[u8], refusal: Answer) -> bool {
-    if !print_line(path, b" refused ") {
-        return false;
-    }
-    if !io::print_decimal(STDOUT_FILENO, refusal.number) {
-        return false;
-    }
-    if !io::write_all(STDOUT_FILENO, b" ") {
-        return false;
-    }
-    if !io::print_decimal(STDOUT_FILENO, refusal.place) {
-        return false;
-    }
-    io::write_all(STDOUT_FILENO, b"\n")
+fn print_refusal<R: Print>(rt: &R, path: &[u8], refusal: Answer) -> io::Result<()> {
+    print_line(rt, path, b" refused ")?;
+    rt.print(refusal.number)?;
+    rt.write_all(b" ")?;
+    rt.print(refusal.place)?;
+    rt.write_all(b"\n")
 }
 
-fn print_verdict(path: &[u8], file: &[u8]) -> bool {
+fn print_verdict<R: Print>(rt: &R, path: &[u8], file: &[u8]) -> io::Result<()> {
     let answer = judge_file(file);
     if answer.number == 0 {
-        return print_line(path, b" accepted\n");
+        return print_line(rt, path, b" accepted\n");
     }
-    print_refusal(path, answer)
+    print_refusal(rt, path, answer)
 }
 
-fn print_unread(path: &[u8]) -> bool {
-    print_line(path, b" cannot be read\n")
+fn print_unread<R: Print>(rt: &R, path: &[u8]) -> io::Result<()> {
+    print_line(rt, path, b" cannot be read\n")
 }
 
-// A folder opens as a file does, and only the read tells. The reason is told at once, before another call can change errno. The buffer is
-// longer than any file that keeps the layout, so a file that is cut here is refused as the whole would be.
-fn check_file(path: &[u8]) -> bool {
-    let fd = os::open_read(path);
-    if fd < 0 {
-        os::fail(path);
-        return print_unread(path);
+// A folder opens as a file does, and only the read tells. The buffer is longer than any file that keeps the layout, so a file that is cut here
+// is refused as the whole would be.
+fn check_file<R: Files + Print + Eprint>(rt: &R, path: &[u8]) -> io::Result<()> {
+    let mut file = match open_read(rt, path) {
+        Ok(file) => file,
+        Err(e) => {
+            fail(rt, path, e);
+            return print_unread(rt, path);
+        }
+    };
+    let mut buf = large_buffer();
+    let filled = fill(&mut file, &mut buf);
+    if let Some(e) = filled.failure {
+        fail(rt, path, e);
+        return print_unread(rt, path);
     }
-    let mut buf = io::large_buffer();
-    let filled = fill(fd, &mut buf);
-    if filled.failed {
-        os::fail(path);
-        libc::close(fd);
-        return print_unread(path);
-    }
-    libc::close(fd);
     let n = filled.count;
-    print_verdict(path, &buf[..n])
+    print_verdict(rt, path, &buf[..n])
 }
 
 // Answers whether to go on: where a line cannot be written the later ones would be lost too.
-fn check_argument(i: usize) -> bool {
-    let mut path = io::buffer();
-    let n = os::arg(i, &mut path);
-    if check_file(&path[..n]) {
-        return true;
+fn check_argument<R: Files + Env + Print + Eprint>(rt: &R, i: usize) -> bool {
+    let mut path = buffer();
+    let n = word(rt, i, &mut path);
+    match check_file(rt, &path[..n]) {
+        Ok(()) => true,
+        Err(e) => {
+            fail(rt, b"standard output", e);
+            false
+        }
     }
-    os::fail(b"standard output");
-    false
 }
 
-fn main() {
-    let count = os::arg_count();
-    let mut i = 1;
-    while i < count {
-        if !check_argument(i) {
+fn main(rt: HostRuntime) {
+    let count = word_count(&rt);
+    for i in 1..count {
+        if !check_argument(&rt, i) {
             return;
         }
-        i += 1;
     }
 }

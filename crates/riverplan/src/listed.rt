@@ -44,7 +44,8 @@ pub fn list_months(
 }
 
 // The same, printed.
-pub fn print_months(
+pub fn print_months<R: Print + Eprint>(
+    rt: &R,
     file: &[u8],
     sheets: &[u8],
     first: u32,
@@ -54,6 +55,6 @@ pub fn print_months(
     ensures { result ≤ length text.old }
 {
     let n = list_months(file, sheets, first, board, text);
-    write(&text[..n]);
+    write(rt, &text[..n]);
     n
 }

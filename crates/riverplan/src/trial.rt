@@ -4,29 +4,37 @@ ghost use Rattle.places.specs.Board.{board_length};
 
 use crate::listed::{list_months, print_months};
 use crate::saying::{say_compared, say_recall, say_save};
-use check::same;
+use files::buffers::large_buffer;
 use fresh::fresh;
 use lister::beginning::open_listing;
 use places::board::BOARD_LENGTH;
 use printing::output::write;
+use std::io;
 
 // The month of the year that March is.
 const MARCH: u32 = 5;
 
 // The header, and the fresh board.
-fn begin(file: &[u8], board: &mut [u64], text: &mut [u8])
+fn begin<R: Print + Eprint>(rt: &R, file: &[u8], board: &mut [u64], text: &mut [u8])
     requires { (length board.old ≡ board_length) × (82 ≤ length text.old) }
 {
     let at = open_listing(file, board, text).at;
-    write(&text[..at]);
+    write(rt, &text[..at]);
 }
 
 // What the dry spring leaves is saved too, so that it can be looked at later.
-fn dry_spring(file: &[u8], dry: &[u8], store: &mut [u8], board: &mut [u64], text: &mut [u8]) {
-    say_save(b"save MARCH:", store, b"MARCH   ", board);
-    print_months(file, dry, MARCH, board, text);
-    say_save(b"save DRY:", store, b"DRY     ", board);
-    say_recall(b"recall MARCH:", store, b"MARCH   ", board);
+fn dry_spring<R: Print + Eprint>(
+    rt: &R,
+    file: &[u8],
+    dry: &[u8],
+    store: &mut [u8],
+    board: &mut [u64],
+    text: &mut [u8],
+) -> io::Result<()> {
+    say_save(rt, b"save MARCH:", store, b"MARCH   ", board)?;
+    print_months(rt, file, dry, MARCH, board, text);
+    say_save(rt, b"save DRY:", store, b"DRY     ", board)?;
+    say_recall(rt, b"recall MARCH:", store, b"MARCH   ", board)
 }
 
 // The spring of a year that was run from the fresh board without any trial. The text of its winter is written over.
@@ -40,26 +48,33 @@ fn list_untried(file: &[u8], winter: &[u8], spring: &[u8], text: &mut [u8]) -> u
 }
 
 // Whether the spring that was printed is that of a year without any trial, byte for byte.
-fn compare(file: &[u8], winter: &[u8], spring: &[u8], printed: &[u8]) {
-    let mut text = io::large_buffer();
+fn compare<R: Print>(
+    rt: &R,
+    file: &[u8],
+    winter: &[u8],
+    spring: &[u8],
+    printed: &[u8],
+) -> io::Result<()> {
+    let mut text = large_buffer();
     let n = list_untried(file, winter, spring, &mut text);
-    say_compared(printed.len(), same(printed, &text[..n]));
+    say_compared(rt, printed.len(), printed == &text[..n])
 }
 
-pub fn try_dry(
+pub fn try_dry<R: Print + Eprint>(
+    rt: &R,
     file: &[u8],
     winter: &[u8],
     spring: &[u8],
     dry: &[u8],
     store: &mut [u8],
     board: &mut [u64],
-)
+) -> io::Result<()>
     requires { length board.old ≡ board_length }
 {
-    let mut text = io::large_buffer();
-    begin(file, board, &mut text);
-    print_months(file, winter, 0, board, &mut text);
-    dry_spring(file, dry, store, board, &mut text);
-    let n = print_months(file, spring, MARCH, board, &mut text);
-    compare(file, winter, spring, &text[..n]);
+    let mut text = large_buffer();
+    begin(rt, file, board, &mut text);
+    print_months(rt, file, winter, 0, board, &mut text);
+    dry_spring(rt, file, dry, store, board, &mut text)?;
+    let n = print_months(rt, file, spring, MARCH, board, &mut text);
+    compare(rt, file, winter, spring, &text[..n])
 }

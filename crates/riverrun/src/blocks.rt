@@ -7,25 +7,34 @@ ghost use Rattle.places.specs.Board.{board_length};
 ghost use Rattle.boards.specs.Board.{possible};
 ghost use Rattle.riverrun.specs.Months.{CanListFile};
 
+use files::buffers::large_buffer;
 use files::fill;
+use files::reasons::fail;
 use lister::Progress;
 use lister::blocks::sheet_size;
 use places::report::MOST_REPORT;
 use printing::blocks::{Sent, list_read};
 use printing::output::write;
+use std::io::Read;
 
 // Reads a block. A read that fails leaves a part that is no whole sheet, so that it is never taken for the end of the file: where it stopped
 // between two sheets, the byte that could not be read stands for that part.
-fn read_block(fd: i32, path: &[u8], size: usize, block: &mut [u8]) -> usize
+fn read_block<R: Eprint, F: Read>(
+    rt: &R,
+    months: &mut F,
+    path: &[u8],
+    size: usize,
+    block: &mut [u8],
+) -> usize
     requires { 0 < size }
     ensures { result ≤ length block.old }
 {
-    let filled = fill(fd, block);
+    let filled = fill(months, block);
     let n = filled.count;
-    if !filled.failed {
+    let Some(e) = filled.failure else {
         return n;
-    }
-    os::fail(path);
+    };
+    fail(rt, path, e);
     if n % size != 0 {
         return n;
     }
@@ -37,8 +46,9 @@ fn read_block(fd: i32, path: &[u8], size: usize, block: &mut [u8]) -> usize
 }
 
 // Block after block, until the listing ends. The blocks are counted, since a proved loop has to end, from more than any disk holds.
-fn list_blocks(
-    fd: i32,
+fn list_blocks<R: Print + Eprint, F: Read>(
+    rt: &R,
+    months: &mut F,
     path: &[u8],
     file: &[u8],
     size: usize,
@@ -55,8 +65,18 @@ fn list_blocks(
     let mut p = from;
     let mut blocks = 140737488355328u64;
     while blocks > 0 {
-        let got = read_block(fd, path, size, block);
-        let sent = list_read(file, size, &block[..got], got < full, p, board, report, out);
+        let got = read_block(rt, months, path, size, block);
+        let sent = list_read(
+            rt,
+            file,
+            size,
+            &block[..got],
+            got < full,
+            p,
+            board,
+            report,
+            out,
+        );
         p = sent.progress;
         if !sent.written {
             return sent;
@@ -73,8 +93,9 @@ fn list_blocks(
 }
 
 // All months of an open file, and then what is left to be written. Answers whether all was.
-pub fn list_all(
-    fd: i32,
+pub fn list_all<R: Print + Eprint, F: Read>(
+    rt: &R,
+    months: &mut F,
     path: &[u8],
     file: &[u8],
     from: Progress,
@@ -85,10 +106,11 @@ pub fn list_all(
 {
     let size = sheet_size(file);
     let full = 65536 - 65536 % size;
-    let mut space = io::large_buffer();
+    let mut space = large_buffer();
     let mut report = [0u64; MOST_REPORT];
     let sent = list_blocks(
-        fd,
+        rt,
+        months,
         path,
         file,
         size,
@@ -102,5 +124,5 @@ pub fn list_all(
         return false;
     }
     let at = sent.progress.at;
-    write(&out[..at])
+    write(rt, &out[..at])
 }

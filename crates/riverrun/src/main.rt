@@ -1,60 +1,73 @@
 // Lists the months of `months.bin` on the basin of `basin.bin`, both in the folder that it is run in. Given names, two to a listing, it lists
 // those files instead, one listing after another. All that is printed is made by `lister`; here it is read and written.
+#![tactic(auto)]
+
 ghost use Rattle.std.specs.Prelude.{◌<◌};
 
-use files::read_whole;
-use lister::beginning::open_listing;
+use files::buffers::{buffer, large_buffer};
+use files::reasons::fail;
+use files::words::{word, word_count};
+use files::{open_read, read_whole};
+use lister::opening::open_listing;
 use places::board::BOARD_LENGTH;
 use printing::output::write;
+use std::rt::{Env, Files};
 
 mod blocks;
 
 // The listing of a basin. Answers whether it could be written. Months that can't be opened are listed as none.
-fn list_months(file: &[u8], months: &[u8]) -> bool {
+fn list_months<R: Files + Print + Eprint>(rt: &R, file: &[u8], months: &[u8]) -> bool {
     let mut board = [0u64; BOARD_LENGTH];
-    let mut out = io::large_buffer();
+    let mut out = large_buffer();
     let opened = open_listing(file, &mut board, &mut out);
     let at = opened.at;
     if !opened.more {
-        return write(&out[..at]);
+        return write(rt, &out[..at]);
     }
-    let fd = os::open_read(months);
-    if fd < 0 {
-        os::fail(months);
-        return write(&out[..at]);
+    match open_read(rt, months) {
+        Ok(mut sheets) => blocks::list_all(
+            rt,
+            &mut sheets,
+            months,
+            file,
+            opened,
+            &mut board,
+            &mut out,
+        ),
+        Err(e) => {
+            fail(rt, months, e);
+            write(rt, &out[..at])
+        }
     }
-    let written = blocks::list_all(fd, months, file, opened, &mut board, &mut out);
-    libc::close(fd);
-    written
 }
 
 // The buffer is longer than any basin file that keeps the layout, so a file that is cut here is refused as the whole would be.
-fn list(basin: &[u8], months: &[u8]) -> bool {
-    let mut buf = io::large_buffer();
-    let n = read_whole(basin, &mut buf);
-    list_months(&buf[..n], months)
+fn list<R: Files + Print + Eprint>(rt: &R, basin: &[u8], months: &[u8]) -> bool {
+    let mut buf = large_buffer();
+    let n = read_whole(rt, basin, &mut buf);
+    list_months(rt, &buf[..n], months)
 }
 
 // The names that stand from argument i on; a name that is not there names no file.
-fn list_named(i: usize) -> bool
+fn list_named<R: Files + Env + Print + Eprint>(rt: &R, i: usize) -> bool
     requires { i < 18446744073709551615 }
 {
-    let mut basin = io::buffer();
-    let b = os::arg(i, &mut basin);
-    let mut months = io::buffer();
-    let m = os::arg(i + 1, &mut months);
-    list(&basin[..b], &months[..m])
+    let mut basin = buffer();
+    let b = word(rt, i, &mut basin);
+    let mut months = buffer();
+    let m = word(rt, i + 1, &mut months);
+    list(rt, &basin[..b], &months[..m])
 }
 
-fn main() {
-    let count = os::arg_count();
+fn main(rt: HostRuntime) {
+    let count = word_count(&rt);
     if count < 2 {
-        list(b"basin.bin", b"months.bin");
+        list(&rt, b"basin.bin", b"months.bin");
         return;
     }
     let listings = count / 2;
     for k in 0..listings {
-        if !list_named(2 * k + 1) {
+        if !list_named(&rt, 2 * k + 1) {
             return;
         }
     }

@@ -1,14 +1,19 @@
 // Lists the months of picked years of a runoff book: `riveryear BASIN BOOK YEAR ..`. The first year is run on the fresh board of the basin, each
 // other where the one before left the board. All that is printed is made by `lister`; here it is read and written.
+#![tactic(auto)]
+
 ghost use Rattle.std.specs.Prelude.{◌≤◌};
 ghost use Rattle.riveryear.specs.Going.{most_asked, CanListBook};
 
+use files::buffers::{buffer, large_buffer};
 use files::read_whole;
+use files::words::{word, word_count};
 use lister::Progress;
 use lister::beginning::open_listing;
 use places::board::BOARD_LENGTH;
 use places::report::MOST_REPORT;
 use printing::output::write;
+use std::rt::{Env, Files};
 
 mod picked;
 mod words;
@@ -17,10 +22,10 @@ mod words;
 const MOST_ASKED: usize = 1099511627776;
 
 // How many years are asked for: all words after the two names.
-fn years_asked() -> usize
+fn years_asked<R: Env>(rt: &R) -> usize
     ensures { result ≤ most_asked }
 {
-    let count = os::arg_count();
+    let count = word_count(rt);
     if count < 3 {
         return 0;
     }
@@ -33,43 +38,50 @@ fn years_asked() -> usize
 
 // The years of the book, and then what is left to be written. Answers whether all was. The buffer is longer than any book that keeps the
 // layout, so a book that is cut here is refused as the whole would be.
-fn list_book(years: usize, file: &[u8], from: Progress, board: &mut [u64], out: &mut [u8]) -> bool
+fn list_book<R: Files + Env + Print + Eprint>(
+    rt: &R,
+    years: usize,
+    file: &[u8],
+    from: Progress,
+    board: &mut [u64],
+    out: &mut [u8],
+) -> bool
     requires { CanListBook file.now years from board.old out.old }
 {
-    let mut name = io::buffer();
-    let k = os::arg(2, &mut name);
-    let mut space = io::large_buffer();
-    let n = read_whole(&name[..k], &mut space);
+    let mut name = buffer();
+    let k = word(rt, 2, &mut name);
+    let mut space = large_buffer();
+    let n = read_whole(rt, &name[..k], &mut space);
     let mut report = [0u64; MOST_REPORT];
-    let sent = picked::list_years(file, &space[..n], years, from, board, &mut report, out);
+    let sent = picked::list_years(rt, file, &space[..n], years, from, board, &mut report, out);
     if !sent.written {
         return false;
     }
     let at = sent.progress.at;
-    write(&out[..at])
+    write(rt, &out[..at])
 }
 
 // The listing of a basin. Answers whether it could be written. The book is opened only where a year is asked for and the basin is accepted.
-fn list(file: &[u8]) -> bool {
+fn list<R: Files + Env + Print + Eprint>(rt: &R, file: &[u8]) -> bool {
     let mut board = [0u64; BOARD_LENGTH];
-    let mut out = io::large_buffer();
+    let mut out = large_buffer();
     let opened = open_listing(file, &mut board, &mut out);
     let at = opened.at;
     if !opened.more {
-        return write(&out[..at]);
+        return write(rt, &out[..at]);
     }
-    let years = years_asked();
+    let years = years_asked(rt);
     if years == 0 {
-        return write(&out[..at]);
+        return write(rt, &out[..at]);
     }
-    list_book(years, file, opened, &mut board, &mut out)
+    list_book(rt, years, file, opened, &mut board, &mut out)
 }
 
 // The buffer is longer than any basin file that keeps the layout, so a file that is cut here is refused as the whole would be.
-fn main() {
-    let mut name = io::buffer();
-    let k = os::arg(1, &mut name);
-    let mut buf = io::large_buffer();
-    let n = read_whole(&name[..k], &mut buf);
-    list(&buf[..n]);
+fn main(rt: HostRuntime) {
+    let mut name = buffer();
+    let k = word(&rt, 1, &mut name);
+    let mut buf = large_buffer();
+    let n = read_whole(&rt, &name[..k], &mut buf);
+    list(&rt, &buf[..n]);
 }

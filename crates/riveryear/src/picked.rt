@@ -7,10 +7,12 @@ use lister::Progress;
 use lister::blocks::sheet_size;
 use printing::blocks::{Sent, list_read};
 use printing::output::make_room;
+use std::rt::Env;
 use yearly::{open_year, sheets_left};
 
 // One year: the refusal of its run, or its months from the board's on.
-fn list_year(
+fn list_year<R: Print + Eprint>(
+    rt: &R,
     file: &[u8],
     book: &[u8],
     year: u32,
@@ -22,7 +24,7 @@ fn list_year(
     requires { CanListYears file.now 1 from board.old report.old out.old }
     ensures { YearWent file.now from board.new report.new out.new result.progress }
 {
-    let room = make_room(from.at, out);
+    let room = make_room(rt, from.at, out);
     if !room.written {
         return Sent {
             progress: from,
@@ -43,11 +45,12 @@ fn list_year(
     }
     let sheets = sheets_left(file, book, year, board);
     let size = sheet_size(file);
-    list_read(file, size, sheets, false, opened, board, report, out)
+    list_read(rt, file, size, sheets, false, opened, board, report, out)
 }
 
 // Year after year, until one ends the listing. The first is named by the third argument.
-pub fn list_years(
+pub fn list_years<R: Env + Print + Eprint>(
+    rt: &R,
     file: &[u8],
     book: &[u8],
     years: usize,
@@ -61,7 +64,7 @@ pub fn list_years(
 {
     let mut p = from;
     for k in 0..years {
-        let sent = list_year(file, book, year_asked(k + 3), p, board, report, out);
+        let sent = list_year(rt, file, book, year_asked(rt, k + 3), p, board, report, out);
         p = sent.progress;
         if !sent.written {
             return sent;

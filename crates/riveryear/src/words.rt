@@ -2,7 +2,10 @@
 ghost use Rattle.std.specs.Prelude.{◌≡◌};
 ghost use Rattle.riveryear.specs.Words.{year_named};
 
+use files::buffers::buffer;
+use files::words::word;
 use numbers::wide8;
+use std::rt::Env;
 
 const MOST_YEAR: u64 = 4294967295;
 
@@ -29,8 +32,8 @@ fn year_named(word: &[u8]) -> u32
 }
 
 // The year that argument i names.
-pub fn year_asked(i: usize) -> u32 {
-    let mut word = io::buffer();
-    let n = os::arg(i, &mut word);
-    year_named(&word[..n])
+pub fn year_asked<R: Env>(rt: &R, i: usize) -> u32 {
+    let mut buf = buffer();
+    let n = word(rt, i, &mut buf);
+    year_named(&buf[..n])
 }
