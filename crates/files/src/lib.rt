@@ -1,7 +1,8 @@
 // Reading that tells a failure from the end of the input, and writing that an interruption does not end.
 #![tactic(auto)]
 
-ghost use Rattle.std.specs.Prelude.{◌≡◌, ◌+◌, ◌≤◌, length, IfOk};
+ghost use Rattle.std.specs.Prelude.{◌≡◌, ◌+◌, ◌<◌, ◌≤◌, length, take, slice_range, IfOk, OnOk, OnErr, IsNone, IsSome};
+ghost use Rattle.std.specs.Io.KnownBytes.{Appends, Consumes, IsAtEnd, Keeps};
 ghost use Rattle.files.specs.Counts.{IsPrefixLen};
 
 use std::io;
@@ -23,7 +24,10 @@ pub struct Filled {
 
 // One read. Where a signal interrupts it before a byte has moved it is tried again; the tries are counted, since a proved loop has to end.
 fn read_some<F: Read>(file: &mut F, buf: &mut [u8]) -> Filled
-    ensures { IsPrefixLen result.count buf.new }
+    ensures prefix_len { IsPrefixLen result.count buf.new }
+    ensures failed { IsSome result.failure → result.count ≡ 0 }
+    ensures bytes { Consumes (F.remaining file.old) (F.remaining file.new) (take result.count buf.new) }
+    ensures end { IsNone result.failure → result.count ≡ 0 → 0 < length buf.old → IsAtEnd (F.remaining file.new) }
 {
     for _ in 0..u64::MAX {
         match file.read(buf) {
@@ -52,7 +56,11 @@ fn read_some<F: Read>(file: &mut F, buf: &mut [u8]) -> Filled
 // One read into the rest of buf.
 fn read_on<F: Read>(file: &mut F, buf: &mut [u8], from: usize) -> Filled
     requires { from ≤ length buf.old }
-    ensures { from + result.count ≤ length buf.old }
+    ensures within { from + result.count ≤ length buf.old }
+    ensures failed { IsSome result.failure → result.count ≡ 0 }
+    ensures front { take from buf.new ≡ take from buf.old }
+    ensures bytes { Consumes (F.remaining file.old) (F.remaining file.new) (slice_range buf.new from (from + result.count)) }
+    ensures end { IsNone result.failure → result.count ≡ 0 → from < length buf.old → IsAtEnd (F.remaining file.new) }
 {
     let rest = &mut buf[from..];
     read_some(file, rest)
@@ -62,6 +70,8 @@ fn read_on<F: Read>(file: &mut F, buf: &mut [u8], from: usize) -> Filled
 pub fn fill<F: Read>(file: &mut F, buf: &mut [u8]) -> Filled
     ensures prefix_len { IsPrefixLen result.count buf.new }
     ensures buf_len_unchanged { length buf.new ≡ length buf.old }
+    ensures bytes { Consumes (F.remaining file.old) (F.remaining file.new) (take result.count buf.new) }
+    ensures end { IsNone result.failure → result.count < length buf.new → IsAtEnd (F.remaining file.new) }
 {
     let mut done = 0;
     while done < buf.len() {
@@ -113,7 +123,9 @@ pub fn read_whole<R: Files + Eprint>(rt: &R, path: &[u8], buf: &mut [u8]) -> usi
 
 // One write of the bytes from a place on, tried again where a signal interrupts it.
 fn write_some<W: Write>(to: &mut W, bytes: &[u8]) -> io::Result<usize>
-    ensures { IfOk result (λ n. IsPrefixLen n bytes.now) }
+    ensures prefix_len { IfOk result (λ n. IsPrefixLen n bytes.now) }
+    ensures ok { IfOk result (λ n. Appends (W.contents to.old) (W.contents to.new) (take n bytes.now)) }
+    ensures err { OnErr result (Keeps (W.contents to.old) (W.contents to.new)) }
 {
     for _ in 0..u64::MAX {
         match to.write(bytes) {
@@ -129,7 +141,9 @@ fn write_some<W: Write>(to: &mut W, bytes: &[u8]) -> io::Result<usize>
 }
 
 // Writes all of the bytes. Fails at the first write that moves nothing.
-pub fn send<W: Write>(to: &mut W, bytes: &[u8]) -> io::Result<()> {
+pub fn send<W: Write>(to: &mut W, bytes: &[u8]) -> io::Result<()>
+    ensures { OnOk result (Appends (W.contents to.old) (W.contents to.new) bytes.now) }
+{
     let n = bytes.len();
     let mut done = 0;
     while done < n {
