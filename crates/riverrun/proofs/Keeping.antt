@@ -2,10 +2,9 @@
 use mathlib.Core.Bool.{true}
 use mathlib.Core.List.{List}
 use mathlib.Core.Path.{◌≡◌}
-use Prim.Native.Nat.{ℕ, ◌+◌, ◌-◌, ◌*◌, ◌≤◌, ◌<◌}
+use Prim.Native.Nat.{ℕ, ◌≤◌, ◌<◌}
 use native.Mathlib.Omega.{arith}
 use lib.ListN.{length, take, length-take}
-use lib.Seq.{length-take-le}
 use Rattle.places.specs.Report.{most_report}
 use Rattle.places.specs.Board.{board_length}
 use Rattle.rules.specs.declared.Verdict.TheVariants.{Accepted}
@@ -15,7 +14,6 @@ use Rattle.filecheck.proofs.Accepted.{accepted-facts}
 use Rattle.boards.specs.Board.{possible}
 use Rattle.listing.specs.Run.{sheet_bytes}
 use Rattle.lister.specs.declared.Progress.{Progress}
-use Rattle.printing.specs.Going.{Going, CanRead, Went}
 use Rattle.printing.proofs.Keeping.{going-first}
 use Rattle.riverrun.specs.Months.{CanListFile}
 
@@ -24,18 +22,6 @@ use Rattle.riverrun.specs.Months.{CanListFile}
 -- a sheet has some bytes
 pub some-sheet : (f : List ℕ) (sheet : ℕ) (block : List ℕ) (p : Progress) (bd rp out : List ℕ) → CanListFile f sheet block p bd rp out → 0 < sheet
 some-sheet f sheet block p bd rp out c = omega (arith, c.bytes, (accepted-facts f c.going.in_order.accepted).connected.some_row)
-
-module _ (f : List ℕ) (sheet : ℕ) (block₀ : List ℕ) (p₀ : Progress) (bd₀ rp₀ out₀ : List ℕ) (c : CanListFile f sheet block₀ p₀ bd₀ rp₀ out₀)
-    (p : Progress) (blocks : ℕ) (bd rp out : List ℕ) (going : Going f p.at bd rp out) (more : p.more ≡ true) (counted : p.months + 65536 * blocks ≤ 9_223_372_036_854_775_808) (left : 0 < blocks)
-    (got : ℕ) (block : List ℕ) (e : length block ≡ length block₀) (h : got ≤ length block) where
-  long : length (take got block) ≤ 65536
-  long = omega (arith, length-take-le got block h, e, c.few)
-
-  pub can-read : CanRead f sheet (take got block) p bd rp out
-  can-read = record { going = going; bytes = c.bytes; more = more; counted = omega (arith, long, counted, left) }
-
-  pub fewer : (bd' rp' out' : List ℕ) (q : Progress) → Went f (take got block) p bd' rp' out' q → q.months + 65536 * (blocks - 1) ≤ 9_223_372_036_854_775_808
-  fewer bd' rp' out' q w = omega (arith, long, counted, left, w.counted)
 
 -- ---- the first block
 

@@ -1,0 +1,6 @@
+-- A sheet of an accepted file has some bytes.
+use Rattle.riverrun.proofs.Keeping.{some-sheet}
+use Rattle.riverrun.proofs.blocks.list_blocks.Goals as goal
+
+pub read_block-got-requires : goal.read_block-got-requires
+read_block-got-requires g c = some-sheet c.args.file.now c.args.size c.args.block.now c.args.from c.args.board.now c.args.report.now c.args.out.now c.requires
