@@ -4,7 +4,7 @@ ghost use Rattle.lines.specs.Putting.{most_text};
 
 use files::reasons::fail;
 use files::send;
-use lines::month::MOST_TEXT;
+use lines::month_lines::MOST_TEXT;
 use std::io;
 
 // Writes a text. Where it can't be written the reason goes to standard error.

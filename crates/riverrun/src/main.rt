@@ -8,7 +8,7 @@ use files::buffers::{buffer, large_buffer};
 use files::reasons::fail;
 use files::words::{word, word_count};
 use files::{open_read, read_whole};
-use lister::opening::open_listing;
+use lister::beginning::open_listing;
 use places::board::BOARD_LENGTH;
 use printing::output::write;
 use std::rt::{Env, Files};
