@@ -2,7 +2,7 @@
 use mathlib.Core.Bool.{true}
 use mathlib.Core.List.{List}
 use mathlib.Core.Path.{◌≡◌, ap}
-use Prim.Native.Nat.{ℕ, ◌+◌, ◌-◌, ◌≤◌, ◌<◌}
+use Prim.Native.Nat.{ℕ, ◌+◌, ◌≤◌}
 use native.Mathlib.Omega.{arith}
 use lib.ListN.{length}
 use Rattle.places.specs.Report.{most_report}
@@ -50,10 +50,3 @@ can-begin f years p bd rp out c told = record {
   more = c.more;
   counted = omega (arith, c.first, c.few);
 }
-
-module _ (f : List ℕ) (years k : ℕ) (h : k < years) (p : Progress) (bd rp out : List ℕ) (c : CanListYears f (years - k) p bd rp out) where
-  pub can-list : CanListYears f 1 p bd rp out
-  can-list = record { going = c.going; more = c.more; counted = omega (arith, c.counted) }
-
-  pub can-go-on : (bd' rp' out' : List ℕ) (r : Progress) → YearWent f p bd' rp' out' r → r.more ≡ true → CanListYears f (years - (k + 1)) r bd' rp' out'
-  can-go-on bd' rp' out' r w more = record { going = w.going; more = more; counted = omega (arith, w.counted, c.counted) }
