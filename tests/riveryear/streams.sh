@@ -87,14 +87,14 @@ launch >"$work/out" 2>&- || status=$?
 : >"$work/err"
 wants 0 '' "$header" 'refused 9 0'
 
-# A reader that leaves after the header ends the program by SIGPIPE (128 + 13), without a word.
+# A reader leaves after the header: the library has SIGPIPE ignored, so the write fails, and the reason is told.
 begin reader_leaves
 many_years
 status=0
 launch 2>"$work/err" | head -c 32 >"$work/out" || status=${PIPESTATUS[0]}
-wants 141 '' "$header"
+wants 0 'standard output: Broken pipe' "$header"
 
-# Where that signal is ignored the write fails, and the reason is told.
+# The same where whoever called the program has it ignored.
 begin reader_leaves_and_the_signal_is_ignored
 many_years
 status=0
