@@ -12,7 +12,7 @@ code() {
         sed -E 's/([A-Za-z0-9_])\[[^]]*\]/\1/g'
 }
 # A buffer; or a written array or a copy, with the name that it is given.
-array='[a-z_]+ = [a-z_]*buffer|([a-z_]+(:| =) )?(\[[^]]*\]?(; [0-9]+\])?|\*[a-z_]+)'
+array='[a-z_]+ = ([a-z_]+::)*[a-z_]*buffer|([a-z_]+(:| =) )?(\[[^]]*\]?(; [0-9]+\])?|\*[a-z_]+)'
 # A line `crate/src/file.rt text` for each array of a folder of crates.
 arrays() {
     local file
