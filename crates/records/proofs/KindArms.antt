@@ -18,6 +18,11 @@ module _ (P : Kind → Type 0) where
   instream-or-storage i s k (inl e) = subst P (sym e) i
   instream-or-storage i s k (inr e) = subst P (sym e) s
 
+  pub no-project : P Direct → P Instream → P Storage → (k : Kind) → (k ≡ Direct) ⊎ ((k ≡ Instream) ⊎ (k ≡ Storage)) → P k
+  no-project d i s k (inl e) = subst P (sym e) d
+  no-project d i s k (inr (inl e)) = subst P (sym e) i
+  no-project d i s k (inr (inr e)) = subst P (sym e) s
+
   pub no-storage : P Direct → P Project → P Instream → (k : Kind) → (k ≡ Direct) ⊎ ((k ≡ Project) ⊎ (k ≡ Instream)) → P k
   no-storage d p i k (inl e) = subst P (sym e) d
   no-storage d p i k (inr (inl e)) = subst P (sym e) p

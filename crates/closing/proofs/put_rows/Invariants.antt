@@ -1,9 +1,6 @@
-use Prim.Native.Nat.{◌-◌, ◌≤◌}
+use Prim.Native.Nat.{◌≤◌}
 use Rattle.closing.specs.Closing.{RowsTold}
 use Rattle.closing.proofs.put_rows.Given as goal
 
 abbrev pub invariant-loop-w : goal.invariant-loop-w
 invariant-loop-w l = (l.w ≤ l.rows) × RowsTold l.n l.w l.flow l.available l.initial.report l.report
-
-abbrev pub decreases-loop-w : goal.decreases-loop-w
-decreases-loop-w l = l.rows - l.w

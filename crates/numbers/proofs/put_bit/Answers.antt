@@ -26,11 +26,10 @@ overflow_sub-rest c = omega (arith, has-it c.args.word c.args.i c.power-one.resu
 
 pub overflow_add-result : goal.overflow_add-result
 overflow_add-result c =
-    let s = c in
-    omega (arith, set_is s.args.word s.args.i c.power-one.result true c.power-one.ensures (λ _. true), put-fits s.args.word s.args.i true 32 s.requires.0 s.requires.1)
+    omega (arith, set_is c.args.word c.args.i c.power-one.result true c.power-one.ensures (λ _. true), put-fits c.args.word c.args.i true 32 c.requires.0 c.requires.1)
 
 pub returns-then-on : goal.returns-then-on
-returns-then-on c = let s = c in set_is s.args.word s.args.i c.power-one.result s.args.on c.power-one.ensures c.if-on.true
+returns-then-on c = set_is c.args.word c.args.i c.power-one.result c.args.on c.power-one.ensures c.if-on.true
 
 pub returns : goal.returns
-returns c = let s = c in clear-is s.args.word s.args.i c.power-one.result s.args.on c.power-one.ensures c.if-on.false
+returns c = clear-is c.args.word c.args.i c.power-one.result c.args.on c.power-one.ensures c.if-on.false

@@ -9,31 +9,26 @@ use Rattle.river.proofs.+put_back.Goals as goal
 
 pub overflow_add-flow : goal.overflow_add-flow
 overflow_add-flow t c =
-    let b = c in
-    omega (arith, room-self b.args.below.now b.args.row b.requires.row-ok b.args.d b.args.flow.now b.requires.flows)
+    omega (arith, room-self c.args.below.now c.args.row c.requires.row-ok c.args.d c.args.flow.now c.requires.flows)
 
 pub overflow_add-available : goal.overflow_add-available
 overflow_add-available t c =
-    let b = c in
-    omega (arith, room-self b.args.below.now b.args.row b.requires.row-ok b.args.d b.args.available.now b.requires.availables)
+    omega (arith, room-self c.args.below.now c.args.row c.requires.row-ok c.args.d c.args.available.now c.requires.availables)
 
 pub put_back-requires : goal.put_back-requires
 put_back-requires t c =
-    let b = c in
-    let f = b.args.flow.now in
-    let a = b.args.available.now in
-    let i = b.args.row in
+    let f = c.args.flow.now in
+    let a = c.args.available.now in
+    let i = c.args.row in
     let q = c.in-Row.next in
     let e = sym c.next_row.ensures ∙ c.in-Row.is in
-    let w = walk-on b.args.below.now i q b.requires.row-ok q e in
-    (omega (arith, b.decreases, w.0, w.1.on), next-return b.args.below.now i q e b.args.d (get_or f i 0 + b.args.d) (get_or a i 0 + b.args.d) f a b.requires)
+    let w = walk-on c.args.below.now i q c.requires.row-ok q e in
+    (omega (arith, c.decreases, w.0, w.1.on), next-return c.args.below.now i q e c.args.d (get_or f i 0 + c.args.d) (get_or a i 0 + c.args.d) f a c.requires)
 
 pub returns-in-Row : goal.returns-in-Row
 returns-in-Row t c =
-    let b = c in
-    return-row b.args.below.now b.args.row b.args.d b.args.flow.now b.args.available.now b.requires c.in-Row.next _ _ (sym c.next_row.ensures ∙ c.in-Row.is) c.put_back.ensures
+    return-row c.args.below.now c.args.row c.args.d c.args.flow.now c.args.available.now c.requires c.in-Row.next _ _ (sym c.next_row.ensures ∙ c.in-Row.is) c.put_back.ensures
 
 pub returns-in_default : goal.returns-in_default
 returns-in_default t c =
-    let b = c in
-    return-end b.args.below.now b.args.row b.args.d b.args.flow.now b.args.available.now b.requires (sym c.next_row.ensures ∙ c.in_default.is)
+    return-end c.args.below.now c.args.row c.args.d c.args.flow.now c.args.available.now c.requires (sym c.next_row.ensures ∙ c.in_default.is)

@@ -14,6 +14,3 @@ Joins board from middle j all = (k : ℕ) → ltb all (2 ^ k) ≡ (have_bits k b
 
 abbrev pub invariant-loop-j : goal.invariant-loop-j
 invariant-loop-j l = (l.half ≡ (l.to - l.from + 1) / 2) × (l.middle ≡ l.to - l.half) × (l.j ≤ l.half) × Joins l.board l.from l.middle l.j l.all
-
-abbrev pub decreases-loop-j : goal.decreases-loop-j
-decreases-loop-j l = l.half - l.j

@@ -2,7 +2,7 @@
 use mathlib.Core.Path.{◌≡◌}
 use mathlib.Core.Bool.{Bool}
 use mathlib.Core.List.{List}
-use Prim.Native.Nat.{ℕ, suc, ◌-◌, ◌≤◌}
+use Prim.Native.Nat.{ℕ, suc, ◌≤◌}
 use lib.Dec.{leb}
 use Rattle.general.specs.Tests.{all_to}
 use Rattle.rules.specs.Theorems.{most_due}
@@ -15,6 +15,3 @@ low board w k = leb (due_at board w (suc k)) (most_due (suc k))
 
 abbrev pub invariant-loop-k : goal.invariant-loop-k
 invariant-loop-k l = (l.k ≤ 11) × (l.all ≡ all_to l.k (low l.board l.w))
-
-abbrev pub decreases-loop-k : goal.decreases-loop-k
-decreases-loop-k l = 11 - l.k

@@ -1,10 +1,7 @@
 -- `closing::losses::lake_area` meets its contract. Assumes nothing.
-use Prim.Native.Nat.{◌-◌, ◌≤◌}
+use Prim.Native.Nat.{◌≤◌}
 use Rattle.closing.proofs.Surveyed.{Reached}
 use Rattle.closing.proofs.losses.lake_area.Given as goal
 
 abbrev pub invariant-loop-k : goal.invariant-loop-k
 invariant-loop-k l = (l.k ≤ 3) × Reached l.reservoirs l.v l.storage l.k l.low
-
-abbrev pub decreases-loop-k : goal.decreases-loop-k
-decreases-loop-k l = 3 - l.k

@@ -7,6 +7,3 @@ use Rattle.entries.proofs.names.find.Given as goal
 
 abbrev pub invariant-loop-entry : goal.invariant-loop-entry
 invariant-loop-entry l = (l.entry ≤ 4) × (first_at (4 - l.entry) l.entry (is_named l.store l.name) ≡ first_named l.store l.name)
-
-abbrev pub decreases-loop-entry : goal.decreases-loop-entry
-decreases-loop-entry l = 4 - l.entry

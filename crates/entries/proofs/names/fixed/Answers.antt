@@ -3,4 +3,4 @@ use Rattle.entries.proofs.Numbers.{eight-elements}
 use Rattle.entries.proofs.names.fixed.Goals as goal
 
 pub returns : goal.returns
-returns c = let a = c in eight-elements a.args.name.now a.requires
+returns c = eight-elements c.args.name.now c.requires

@@ -2,7 +2,7 @@
 use mathlib.Core.Path.{◌≡◌}
 use mathlib.Core.Bool.{Bool}
 use mathlib.Core.List.{List}
-use Prim.Native.Nat.{ℕ, ◌-◌, ◌≤◌}
+use Prim.Native.Nat.{ℕ, ◌≤◌}
 use lib.Dec.{leb}
 use Rattle.general.specs.Tests.{all_to}
 use Rattle.records.specs.Records.{depth_at}
@@ -13,6 +13,3 @@ small s v m = leb (depth_at s v m) 1000
 
 abbrev pub invariant-loop-m : goal.invariant-loop-m
 invariant-loop-m l = (l.m ≤ 12) × (l.all ≡ all_to l.m (small l.reservoirs l.v))
-
-abbrev pub decreases-loop-m : goal.decreases-loop-m
-decreases-loop-m l = 12 - l.m

@@ -15,9 +15,8 @@ returns-then-reservoirs-v c = λ st k g. let a = c.args in sym (below_none st a.
 
 pub on_path-requires : goal.on_path-requires
 on_path-requires c =
-    let b = c in
     let e = c.index.ensures.0 ∙ ap (λ (x : ReservoirRecord). x.row) c.reservoir_at-behind.ensures in
-    record { downhill = b.requires.downhill; on = omega (arith, e, b.requires.row_in b.args.v (omega arith)) }
+    record { downhill = c.requires.downhill; on = omega (arith, e, c.requires.row_in c.args.v (omega arith)) }
 
 pub returns : goal.returns
 returns c = λ st k g.

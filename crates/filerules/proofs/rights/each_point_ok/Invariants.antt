@@ -2,7 +2,7 @@
 use mathlib.Core.Path.{◌≡◌}
 use mathlib.Core.Bool.{Bool}
 use mathlib.Core.List.{List}
-use Prim.Native.Nat.{ℕ, ◌-◌, ◌≤◌}
+use Prim.Native.Nat.{ℕ, ◌≤◌}
 use Rattle.general.specs.Tests.{all_to}
 use Rattle.records.specs.Records.{return_row, return_percent}
 use Rattle.filerules.specs.FileRules.{point_ok}
@@ -13,6 +13,3 @@ good n from s i k = point_ok n from (return_row s i k) (return_percent s i k)
 
 abbrev pub invariant-loop-k : goal.invariant-loop-k
 invariant-loop-k l = (l.k ≤ l.points) × (l.all ≡ all_to l.k (good l.n l.from l.rights l.i))
-
-abbrev pub decreases-loop-k : goal.decreases-loop-k
-decreases-loop-k l = l.points - l.k

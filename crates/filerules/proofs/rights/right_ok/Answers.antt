@@ -17,14 +17,13 @@ returns-then-not-heading_ok c =
     sym (heading-bad _ _ _ _ _ e)
 
 pub source_ok-requires : goal.source_ok-requires
-source_ok-requires c = let b = c in reservoirs-on b.args.stations.now b.args.below.now b.requires.1 b.args.reservoirs.now b.requires.2
+source_ok-requires c = reservoirs-on c.args.stations.now c.args.below.now c.requires.1 c.args.reservoirs.now c.requires.2
 
 pub returns_ok-requires : goal.returns_ok-requires
 returns_ok-requires c = (c.requires.0, few_points _ _ (sym c.heading_ok.ensures ∙ c.if-not-heading_ok.false))
 
 pub returns : goal.returns
 returns c =
-    let b = c in
     right-ruled _ _ _ _ _ c.right_at-r.ensures c.index.ensures.0 (sym c.kind_known.ensures ∙ c.if-not-kind_known.false) (sym c.heading_ok.ensures ∙ c.if-not-heading_ok.false)
-    (c.source_ok.ensures _ b.requires.1 b.requires.2) c.returns_ok.ensures c.unused_ok.ensures c.amounts_ok.ensures c.right_rises.ensures
+    (c.source_ok.ensures _ c.requires.1 c.requires.2) c.returns_ok.ensures c.unused_ok.ensures c.amounts_ok.ensures c.right_rises.ensures
     c.both-ruled.ensures c.both-paired.ensures c.both.ensures c.both-2.ensures

@@ -2,7 +2,7 @@
 use mathlib.Core.Path.{◌≡◌}
 use mathlib.Core.Bool.{Bool, ◌||◌}
 use mathlib.Core.List.{List}
-use Prim.Native.Nat.{ℕ, ◌-◌, ◌≤◌}
+use Prim.Native.Nat.{ℕ, ◌≤◌}
 use lib.Dec.{ltb, eqb}
 use Rattle.general.specs.Tests.{◌and◌, all_to}
 use Rattle.records.specs.Records.{return_row, return_percent}
@@ -14,6 +14,3 @@ good s i points k = ltb k points || (eqb (return_row s i k) 0 and eqb (return_pe
 
 abbrev pub invariant-loop-k : goal.invariant-loop-k
 invariant-loop-k l = (l.k ≤ 4) × (l.all ≡ all_to l.k (good l.rights l.i l.points))
-
-abbrev pub decreases-loop-k : goal.decreases-loop-k
-decreases-loop-k l = 4 - l.k

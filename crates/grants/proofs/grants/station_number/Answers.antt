@@ -6,5 +6,4 @@ use Rattle.grants.proofs.grants.station_number.Goals as goal
 
 pub returns : goal.returns
 returns c =
-    let b = c in
-    c.le32.ensures ∙ sym (number_is b.args.stations.now b.args.row (omega arith))
+    c.le32.ensures ∙ sym (number_is c.args.stations.now c.args.row (omega arith))

@@ -11,63 +11,54 @@ use Rattle.grants.proofs.stages.draw.Goals as goal
 
 pub returns-in_default : goal.returns-in_default
 returns-in_default c =
-    let b = c in
-    let t = b.args.below.now in
-    let rs = b.args.reservoirs.now in
-    let f = b.args.flow.now in
-    let bd = b.args.board.now in
-    but-project (λ k. Drawn k t rs b.args.v b.args.row b.args.lacking f bd f bd 0)
-    (drawn-direct t rs b.args.v b.args.row b.args.lacking f bd)
-    (drawn-instream t rs b.args.v b.args.row b.args.lacking f bd)
-    (drawn-storage t rs b.args.v b.args.row b.args.lacking f bd)
-    b.args.kind c.in_default.not-Project
+    let t = c.args.below.now in
+    let rs = c.args.reservoirs.now in
+    let f = c.args.flow.now in
+    let bd = c.args.board.now in
+    but-project (λ k. Drawn k t rs c.args.v c.args.row c.args.lacking f bd f bd 0)
+    (drawn-direct t rs c.args.v c.args.row c.args.lacking f bd)
+    (drawn-instream t rs c.args.v c.args.row c.args.lacking f bd)
+    (drawn-storage t rs c.args.v c.args.row c.args.lacking f bd)
+    c.args.kind c.in_default.not-Project
 
 pub storage_place-storage-requires : goal.storage_place-storage-requires
 storage_place-storage-requires c = (c.requires.there c.in-Project.is).1
 
 pub offset_bounds-board-storage : goal.offset_bounds-board-storage
 offset_bounds-board-storage c =
-    let b = c in
-    omega (arith, b.requires.there c.in-Project.is)
+    omega (arith, c.requires.there c.in-Project.is)
 
 pub bounds-board-storage : goal.bounds-board-storage
 bounds-board-storage c =
-    let b = c in
-    omega (arith, b.requires.there c.in-Project.is, b.requires.size)
+    omega (arith, c.requires.there c.in-Project.is, c.requires.size)
 
 pub returns-then-x-eq0 : goal.returns-then-x-eq0
 returns-then-x-eq0 c =
-    let b = c in
-    let bd = b.args.board.now in
-    drawn-nothing b.args.kind b.args.below.now b.args.reservoirs.now b.args.v b.args.row b.args.lacking b.args.flow.now bd c.in-Project.is c.lesser-x.result
-    (c.lesser-x.ensures.0 ∙ ap (min b.args.lacking) (place_read bd c.storage_place-storage.ensures)) c.if-x-eq0.true
+    let bd = c.args.board.now in
+    drawn-nothing c.args.kind c.args.below.now c.args.reservoirs.now c.args.v c.args.row c.args.lacking c.args.flow.now bd c.in-Project.is c.lesser-x.result
+    (c.lesser-x.ensures.0 ∙ ap (min c.args.lacking) (place_read bd c.storage_place-storage.ensures)) c.if-x-eq0.true
 
 pub offset_bounds-board-storage-2 : goal.offset_bounds-board-storage-2
 offset_bounds-board-storage-2 c =
-    let b = c in
-    omega (arith, b.requires.there c.in-Project.is)
+    omega (arith, c.requires.there c.in-Project.is)
 
 pub bounds-board-storage-2 : goal.bounds-board-storage-2
 bounds-board-storage-2 c =
-    let b = c in
-    omega (arith, b.requires.there c.in-Project.is, b.requires.size)
+    omega (arith, c.requires.there c.in-Project.is, c.requires.size)
 
 pub reservoir_at-reservoir-requires : goal.reservoir_at-reservoir-requires
 reservoir_at-reservoir-requires c =
-    let b = c in
-    (b.requires.there c.in-Project.is).0
+    (c.requires.there c.in-Project.is).0
 
 pub release-requires : goal.release-requires
 release-requires c =
-    let b = c in
     let e = c.index.ensures.0 ∙ ap (λ (x : ReservoirRecord). x.row) c.reservoir_at-reservoir.ensures in
-    rw e (b.requires.release_ok c.in-Project.is c.lesser-x.result c.lesser-x.ensures.1)
+    rw e (c.requires.release_ok c.in-Project.is c.lesser-x.result c.lesser-x.ensures.1)
 
 pub returns : goal.returns
 returns c =
-    let b = c in
-    let bd = b.args.board.now in
+    let bd = c.args.board.now in
     let e = c.index.ensures.0 ∙ ap (λ (x : ReservoirRecord). x.row) c.reservoir_at-reservoir.ensures in
     rw c.storage_place-storage.ensures
-    (drawn-yes b.args.kind b.args.below.now b.args.reservoirs.now b.args.v b.args.row b.args.lacking b.args.flow.now bd c.in-Project.is c.lesser-x.result
-    (c.lesser-x.ensures.0 ∙ ap (min b.args.lacking) (place_read bd c.storage_place-storage.ensures)) _ c.index.result e c.release.ensures)
+    (drawn-yes c.args.kind c.args.below.now c.args.reservoirs.now c.args.v c.args.row c.args.lacking c.args.flow.now bd c.in-Project.is c.lesser-x.result
+    (c.lesser-x.ensures.0 ∙ ap (min c.args.lacking) (place_read bd c.storage_place-storage.ensures)) _ c.index.result e c.release.ensures)

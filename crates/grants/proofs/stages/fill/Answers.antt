@@ -7,9 +7,8 @@ use Rattle.grants.proofs.stages.fill.Goals as goal
 
 pub pour-requires : goal.pour-requires
 pour-requires c =
-    let b = c in
-    let k = b.requires.there c.in-Storage.is in
-    record { most = b.requires.most; small = b.requires.small; board = b.requires.board; eight = k.0; there = k.1 }
+    let k = c.requires.there c.in-Storage.is in
+    record { most = c.requires.most; small = c.requires.small; board = c.requires.board; eight = k.0; there = k.1 }
 
 pub returns-in-Storage : goal.returns-in-Storage
 unfolding board_stored

@@ -21,19 +21,17 @@ bounds-board-taken-2 c = omega (arith, c.requires.board.size, c.requires.most, l
 
 pub returns-then-d-eq0 : goal.returns-then-d-eq0
 returns-then-d-eq0 c =
-    let b = c in
-    let l = b.args.board.now in
+    let l = c.args.board.now in
     rw (c.storage_place-storage.ensures, c.taken_place-taken.ensures)
-    (poured-none (capacity_in b.args.reservoirs.now b.args.v) b.args.v b.args.i b.args.d l c.if-d-eq0.true)
+    (poured-none (capacity_in c.args.reservoirs.now c.args.v) c.args.v c.args.i c.args.d l c.if-d-eq0.true)
 
 pub returns-then-held-wide32 : goal.returns-then-held-wide32
 returns-then-held-wide32 c =
-    let b = c in
-    let l = b.args.board.now in
+    let l = c.args.board.now in
     let e = c.wide32.ensures.0 ∙ ap (λ (x : ReservoirRecord). x.capacity) c.reservoir_at-reservoir.ensures in
-    let h = ap (λ (x : ℕ). x + b.args.d) (place_read l c.storage_place-storage.ensures) in
+    let h = ap (λ (x : ℕ). x + c.args.d) (place_read l c.storage_place-storage.ensures) in
     rw (c.storage_place-storage.ensures, c.taken_place-taken.ensures)
-    (poured-part (capacity_in b.args.reservoirs.now b.args.v) b.args.v b.args.i b.args.d l (λ z. c.if-held-wide32.true (h ∙ z ∙ sym e)))
+    (poured-part (capacity_in c.args.reservoirs.now c.args.v) c.args.v c.args.i c.args.d l (λ z. c.if-held-wide32.true (h ∙ z ∙ sym e)))
 
 pub bounds-board-9 : goal.bounds-board-9
 bounds-board-9 c = omega (arith, c.requires.board.size, length-set c.args.board.now c.storage_place-storage.result (get_or c.args.board.now c.storage_place-storage.result 0 + c.args.d), length-set (set c.args.board.now c.storage_place-storage.result (get_or c.args.board.now c.storage_place-storage.result 0 + c.args.d)) c.taken_place-taken.result (get_or c.args.board.now c.taken_place-taken.result 0 + c.args.d))
@@ -46,9 +44,8 @@ bounds-board-9-2 c = omega (arith, c.requires.board.size, length-set c.args.boar
 
 pub returns : goal.returns
 returns c =
-    let b = c in
-    let l = b.args.board.now in
+    let l = c.args.board.now in
     let e = c.wide32.ensures.0 ∙ ap (λ (x : ReservoirRecord). x.capacity) c.reservoir_at-reservoir.ensures in
-    let h = ap (λ (x : ℕ). x + b.args.d) (place_read l c.storage_place-storage.ensures) in
-    poured-at (capacity_in b.args.reservoirs.now b.args.v) b.args.v b.args.i b.args.d l c.power.result c.storage_place-storage.ensures c.taken_place-taken.ensures
+    let h = ap (λ (x : ℕ). x + c.args.d) (place_read l c.storage_place-storage.ensures) in
+    poured-at (capacity_in c.args.reservoirs.now c.args.v) c.args.v c.args.i c.args.d l c.power.result c.storage_place-storage.ensures c.taken_place-taken.ensures
     c.if-d-eq0.false (c.if-held-wide32.false ∙ e) (c.power.ensures ∙ ap (λ (x : ℕ). 2 ^ x) c.wide_size.ensures)

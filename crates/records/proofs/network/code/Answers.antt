@@ -13,10 +13,9 @@ returns-in_default c =
 
 pub overflow_cast-result : goal.overflow_cast-result
 overflow_cast-result c =
-    let b = c in
-    let s = b.args.stations.now in
-    let w = code_row (stations_of s) b.args.row c.in-Row.next (sym c.row_below.ensures ∙ c.in-Row.is) in
-    omega (arith, w.0, rows_are s, b.requires.1)
+    let s = c.args.stations.now in
+    let w = code_row (stations_of s) c.args.row c.in-Row.next (sym c.row_below.ensures ∙ c.in-Row.is) in
+    omega (arith, w.0, rows_are s, c.requires.1)
 
 pub returns : goal.returns
 returns c =

@@ -1,6 +1,6 @@
 -- `records::patterns::decode_patterns` meets its contract. The loop's invariant: the first p places hold the sums of the file's patterns. Assumes nothing.
 use mathlib.Core.Path.{◌≡◌}
-use Prim.Native.Nat.{◌-◌, ◌≤◌}
+use Prim.Native.Nat.{◌≤◌}
 use lib.ListN.{replicate}
 use Rattle.general.proofs.Fill.{filled}
 use Rattle.records.specs.Records.{pattern_count, pattern_of}
@@ -9,6 +9,3 @@ use Rattle.records.proofs.patterns.decode_patterns.Given as goal
 
 abbrev pub invariant-loop-p : goal.invariant-loop-p
 invariant-loop-p l = (l.n ≡ pattern_count l.patterns) × (l.p ≤ l.n) × (l.table ≡ filled (λ q. sums_of (pattern_of l.patterns q)) (replicate 12 0) 16 l.p)
-
-abbrev pub decreases-loop-p : goal.decreases-loop-p
-decreases-loop-p l = l.n - l.p

@@ -17,23 +17,20 @@ bounds-patterns-which c = omega (arith, c.requires.0.points-ok.known c.requires.
 
 pub loop-k-init : goal.loop-k-init
 loop-k-init c =
-    let b = c in
-    (omega arith, total-none (return_percent b.args.rights.now b.args.back.right), omega arith, λ pattern s. gave-none _ _ _ _ _ _ _ _ b.requires.0.river.within)
+    (omega arith, total-none (return_percent c.args.rights.now c.args.back.right), omega arith, λ pattern s. gave-none _ _ _ _ _ _ _ _ c.requires.0.river.within)
 
 pub return_percent-requires : goal.return_percent-requires
 return_percent-requires c = (c.requires.0.points-ok.right_in, omega (arith, c.requires.0.points-ok.few))
 
 pub overflow_add-c : goal.overflow_add-c
 overflow_add-c c =
-    let w = c in
     let l = c.loop-k in
-    omega (arith, percents-in c.requires.0 l.k l.c w.wide8-p.result w.loop-k-test.true l.invariant.1 (w.wide8-p.ensures.0 ∙ w.return_percent.ensures))
+    omega (arith, percents-in c.requires.0 l.k l.c c.wide8-p.result c.loop-k-test.true l.invariant.1 (c.wide8-p.ensures.0 ∙ c.return_percent.ensures))
 
 pub percent_of-next-requires : goal.percent_of-next-requires
 percent_of-next-requires c =
-    let w = c in
     let l = c.loop-k in
-    (c.requires.0.small, percents-in c.requires.0 l.k l.c w.wide8-p.result w.loop-k-test.true l.invariant.1 (w.wide8-p.ensures.0 ∙ w.return_percent.ensures))
+    (c.requires.0.small, percents-in c.requires.0 l.k l.c c.wide8-p.result c.loop-k-test.true l.invariant.1 (c.wide8-p.ensures.0 ∙ c.return_percent.ensures))
 
 pub return_row-requires : goal.return_row-requires
 return_row-requires c = (c.requires.0.points-ok.right_in, omega (arith, c.requires.0.points-ok.few))
@@ -43,19 +40,16 @@ overflow_sub-next c = omega (arith, c.loop-k.invariant.2, c.percent_of-next.ensu
 
 pub split-part-requires : goal.split-part-requires
 split-part-requires c =
-    let b = c in
-    let o = b.requires.0 in
-    let w = c in
+    let o = c.requires.0 in
     let l = c.loop-k in
-    let sm = o.points-ok.by_sums b.requires.1 in
+    let sm = o.points-ok.by_sums c.requires.1 in
     let g = l.invariant.3 sm.0 sm.1 in
-    let r = c in
-    let row_in : r.index-row.result < 64 = omega (arith, r.index-row.ensures.0, r.return_row.ensures, o.points-ok.rows l.k (omega arith)) in (
+    let row_in : c.index-row.result < 64 = omega (arith, c.index-row.ensures.0, c.return_row.ensures, o.points-ok.rows l.k (omega arith)) in (
       row_in,
       record {
         pattern = sm.0;
         by_sums = sm.1;
-        small = omega (arith, c.percent_of-next.ensures, next_small o l.k l.c w.wide8-p.result w.loop-k-test.true l.invariant.1 (w.wide8-p.ensures.0 ∙ w.return_percent.ensures));
+        small = omega (arith, c.percent_of-next.ensures, next_small o l.k l.c c.wide8-p.result c.loop-k-test.true l.invariant.1 (c.wide8-p.ensures.0 ∙ c.return_percent.ensures));
         on = omega (arith, g.size, o.board.size);
         dues_roomy = record { room = λ j. omega (arith, g.filled j, o.board.room.room j, o.points-ok.few) };
       },
@@ -63,50 +57,41 @@ split-part-requires c =
 
 pub give_share-requires : goal.give_share-requires
 give_share-requires c =
-    let b = c in
-    let o = b.requires.0 in
-    let w = c in
+    let o = c.requires.0 in
     let l = c.loop-k in
-    let sm = o.points-ok.by_sums b.requires.1 in
-    let r = c in
+    let sm = o.points-ok.by_sums c.requires.1 in
     let x = c.split-part in
-    can-return b.args.below.now l.flow l.available x.result.at_once r.index-row.result
+    can-return c.args.below.now l.flow l.available x.result.at_once c.index-row.result
     (river-after _ _ _ _ _ _ _ _ l.k l.flow l.available l.board l.deep (l.invariant.3 sm.0 sm.1) (omega (arith, o.points-ok.few)) o.river)
-    (omega (arith, r.index-row.ensures.0, r.return_row.ensures, o.points-ok.rows l.k (omega arith)))
-    (omega (arith, c.percent_of-next.ensures, (split-le _ _ _ _ _ x.result sm.1.good.sum_most (x.ensures sm.0 sm.1)).0, next_small o l.k l.c w.wide8-p.result w.loop-k-test.true l.invariant.1 (w.wide8-p.ensures.0 ∙ w.return_percent.ensures)))
+    (omega (arith, c.index-row.ensures.0, c.return_row.ensures, o.points-ok.rows l.k (omega arith)))
+    (omega (arith, c.percent_of-next.ensures, (split-le _ _ _ _ _ x.result sm.1.good.sum_most (x.ensures sm.0 sm.1)).0, next_small o l.k l.c c.wide8-p.result c.loop-k-test.true l.invariant.1 (c.wide8-p.ensures.0 ∙ c.return_percent.ensures)))
 
 pub overflow_add-deep : goal.overflow_add-deep
 overflow_add-deep c =
-    let b = c in
-    let o = b.requires.0 in
-    let w = c in
+    let o = c.requires.0 in
     let l = c.loop-k in
-    let sm = o.points-ok.by_sums b.requires.1 in
+    let sm = o.points-ok.by_sums c.requires.1 in
     let x = c.split-part in
     let x-le = split-le _ _ _ _ _ x.result sm.1.good.sum_most (x.ensures sm.0 sm.1) in
-    omega (arith, (l.invariant.3 sm.0 sm.1).lost_most, o.points-ok.few, x-le.1, c.percent_of-next.ensures, next_small o l.k l.c w.wide8-p.result w.loop-k-test.true l.invariant.1 (w.wide8-p.ensures.0 ∙ w.return_percent.ensures))
+    omega (arith, (l.invariant.3 sm.0 sm.1).lost_most, o.points-ok.few, x-le.1, c.percent_of-next.ensures, next_small o l.k l.c c.wide8-p.result c.loop-k-test.true l.invariant.1 (c.wide8-p.ensures.0 ∙ c.return_percent.ensures))
 
 pub overflow_add-c-in-loop-k : goal.overflow_add-c-in-loop-k
 overflow_add-c-in-loop-k c =
-    let w = c in
     let l = c.loop-k in
-    omega (arith, percents-in c.requires.0 l.k l.c w.wide8-p.result w.loop-k-test.true l.invariant.1 (w.wide8-p.ensures.0 ∙ w.return_percent.ensures))
+    omega (arith, percents-in c.requires.0 l.k l.c c.wide8-p.result c.loop-k-test.true l.invariant.1 (c.wide8-p.ensures.0 ∙ c.return_percent.ensures))
 
 pub loop-k-preserved : goal.loop-k-preserved
 loop-k-preserved c =
-    let b = c in
-    let o = b.requires.0 in
-    let i = b.args.back.right in
-    let rest = b.args.back.amount in
-    let ri = b.args.rights.now in
-    let w = c in
+    let o = c.requires.0 in
+    let i = c.args.back.right in
+    let rest = c.args.back.amount in
+    let ri = c.args.rights.now in
     let l = c.loop-k in
-    let p = w.wide8-p.result in
-    let pe = w.wide8-p.ensures.0 ∙ w.return_percent.ensures in
-    let on = w.loop-k-test.true in
-    let r = c in
-    let row = r.index-row.result in
-    let re : row ≡ return_row ri i l.k = r.index-row.ensures.0 ∙ r.return_row.ensures in
+    let p = c.wide8-p.result in
+    let pe = c.wide8-p.ensures.0 ∙ c.return_percent.ensures in
+    let on = c.loop-k-test.true in
+    let row = c.index-row.result in
+    let re : row ≡ return_row ri i l.k = c.index-row.ensures.0 ∙ c.return_row.ensures in
     let ne = c.percent_of-next.ensures in
     let amount : ℕ = c.percent_of-next.result - l.before in
     let ae : amount ≡ (part_in ri i rest l.k).amount = ap (λ (y : ℕ). y - l.before) ne ∙ ap (λ (y : ℕ). rest * (l.c + p) / 100 - y) l.invariant.2 ∙ amount-is ri i rest l.k l.c p l.invariant.1 pe in
@@ -115,7 +100,7 @@ loop-k-preserved c =
       omega arith,
       omega (arith, pe, total-more (return_percent ri i) l.k l.c l.invariant.1),
       ne,
-      λ pattern s. gave-more b.args.below.now pattern ri i rest b.args.flow.now b.args.available.now b.args.board.now
+      λ pattern s. gave-more c.args.below.now pattern ri i rest c.args.flow.now c.args.available.now c.args.board.now
           l.k l.flow l.available l.board l.deep (l.invariant.3 pattern s) (omega (arith, o.points-ok.few))
           q x.result _ _ _ (part-is ri i rest l.k row amount re ae)
           s.good.sum_most

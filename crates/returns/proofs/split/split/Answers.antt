@@ -8,13 +8,11 @@ use Rattle.returns.proofs.split.split.Goals as goal
 
 pub returns-then-a-eq0 : goal.returns-then-a-eq0
 returns-then-a-eq0 c =
-    let b = c in
-    λ pattern s. split-nothing pattern b.args.a (dues_of b.args.row) b.args.board.now _ s.good.sum_most c.if-a-eq0.true refl refl
+    λ pattern s. split-nothing pattern c.args.a (dues_of c.args.row) c.args.board.now _ s.good.sum_most c.if-a-eq0.true refl refl
 
 pub split_months-requires : goal.split_months-requires
 split_months-requires c =
-    let b = c in
-    subst (λ (at : ℕ). CanSplit b.args.sums.now b.args.a at b.args.board.now) (sym c.dues_of.ensures) b.requires.1
+    subst (λ (at : ℕ). CanSplit c.args.sums.now c.args.a at c.args.board.now) (sym c.dues_of.ensures) c.requires.1
 
 pub returns : goal.returns
 returns c = rw c.dues_of.ensures at c.split_months.ensures

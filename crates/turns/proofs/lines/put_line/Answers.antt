@@ -30,9 +30,8 @@ bounds-report-line-4 c =
 pub returns : goal.returns
 unfolding line_of
 returns c =
-    let b = c in
-    let l = b.args.report.now in
-    let g = b.args.grant in
+    let l = c.args.report.now in
+    let g = c.args.grant in
     let e = c.why-reason.ensures in
     let q = c.line_place-line.ensures in
-    λ z. set (set (set (set l (q z) g.from_river) (q z + 1) g.from_storage) (q z + 2) (e z)) (q z + 3) b.args.station
+    λ z. set (set (set (set l (q z) g.from_river) (q z + 1) g.from_storage) (q z + 2) (e z)) (q z + 3) c.args.station

@@ -11,15 +11,12 @@ overflow_sub-rest c = omega (arith, (rest-fits c.requires c.wide8.ensures.0).1)
 
 pub give_returns-deep-requires : goal.give_returns-deep-requires
 give_returns-deep-requires c =
-    let r = c in
-    can-give r.requires r.index.ensures.0 r.index-2.ensures.0 r.wide8.ensures.0
+    can-give c.requires c.index.ensures.0 c.index-2.ensures.0 c.wide8.ensures.0
 
 pub returns-then-d-share : goal.returns-then-d-share
 returns-then-d-share c =
-    let r = c in
-    finished-short r.requires r.index.ensures.0 r.index-2.ensures.0 r.wide8.ensures.0 c.give_returns-deep.ensures r.index-row.ensures.0 c.if-d-share.true
+    finished-short c.requires c.index.ensures.0 c.index-2.ensures.0 c.wide8.ensures.0 c.give_returns-deep.ensures c.index-row.ensures.0 c.if-d-share.true
 
 pub returns : goal.returns
 returns c =
-    let r = c in
-    finished-met r.requires r.index.ensures.0 r.index-2.ensures.0 r.wide8.ensures.0 c.give_returns-deep.ensures c.if-d-share.false
+    finished-met c.requires c.index.ensures.0 c.index-2.ensures.0 c.wide8.ensures.0 c.give_returns-deep.ensures c.if-d-share.false

@@ -1,5 +1,4 @@
 -- `years::run::run_rest` meets its contract. The loop's invariant: what the months to come leave is what all of them leave. Assumes nothing.
-use Prim.Native.Nat.{◌-◌}
 use lib.ListN.{length}
 use Rattle.records.specs.Records.{bodies}
 use Rattle.years.proofs.Rest.{Going}
@@ -8,7 +7,3 @@ use Rattle.years.proofs.run.run_rest.Given as goal
 abbrev pub invariant-loop-k : goal.invariant-loop-k
 invariant-loop-k l =
     Going (bodies l.stations l.reservoirs l.patterns l.rights) (length l.initial.runoff) l.body l.first l.told l.initial.board l.initial.reports l.runoff l.board l.reports l.at l.k
-
-abbrev pub decreases-loop-k : goal.decreases-loop-k
-decreases-loop-k l =
-    12 - l.k
