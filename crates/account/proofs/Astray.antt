@@ -1,8 +1,8 @@
 -- A month call and a year run on a board that is not possible: refused, at the latest for the board, and nothing is changed. Assumes nothing.
+use Rattle.std.specs.Prelude.{Option, None, Some}
 use mathlib.Core.Path.{◌≡◌, refl, ap, ◌∙◌}
 use mathlib.Core.Bool.{Bool, true, false}
 use mathlib.Core.List.{List}
-use mathlib.Core.Option.{Option, none, some}
 use Prim.Native.Nat.{ℕ}
 use lib.ListN.{length}
 use Rattle.general.specs.Tests.{◌and◌}
@@ -28,19 +28,19 @@ use Rattle.account.proofs.Months.{lists-same}
 
 -- the board is the cause, unless the lists come before it
 board-last : Bool → Option Answer
-board-last fits = or_else (unless fits Lists) (some (told Board))
+board-last fits = or_else (unless fits Lists) (Some (told Board))
 
 -- it is a refusal, so what comes after it is not asked
-stops : (fits : Bool) (later : Option Answer) → or_else (board-last fits) later ≡ some (settled (board-last fits))
+stops : (fits : Bool) (later : Option Answer) → or_else (board-last fits) later ≡ Some (settled (board-last fits))
 unfolding board-last or_else unless settled
 stops true later = refl
 stops false later = refl
 
-stops-after : (first : Option Answer) (fits : Bool) (later : Option Answer) → or_else first (or_else (board-last fits) later) ≡ some (settled (or_else first (board-last fits)))
+stops-after : (first : Option Answer) (fits : Bool) (later : Option Answer) → or_else first (or_else (board-last fits) later) ≡ Some (settled (or_else first (board-last fits)))
 unfolding board-last or_else unless settled
-stops-after none true later = refl
-stops-after none false later = refl
-stops-after (some a) fits later = refl
+stops-after None true later = refl
+stops-after None false later = refl
+stops-after (Some a) fits later = refl
 
 module _ (f : List ℕ) (ok : check_of f ≡ AcceptedFile) (l : List ℕ) (size : length l ≡ board_length) (cannot : possible (basin_of f) l ≡ false) where
   lent-astray : (fits : Bool) → lent_refusal f fits l ≡ board-last fits
@@ -54,7 +54,7 @@ module _ (f : List ℕ) (ok : check_of f ≡ AcceptedFile) (l : List ℕ) (size 
     abbrev fits : Bool
     fits = lists_fit (basin_of f) (call_of e)
 
-    month-refused : month_refusal f e.runoff l e.report ≡ some (settled (board-last fits))
+    month-refused : month_refusal f e.runoff l e.report ≡ Some (settled (board-last fits))
     unfolding month_refusal
     month-refused =
         ap (λ (v : Option Answer). or_else v (over_answer (over_limit e.runoff))) (lent-astray (all_fit (basin_of f) e.runoff l e.report))
@@ -89,7 +89,7 @@ module _ (f : List ℕ) (ok : check_of f ≡ AcceptedFile) (l : List ℕ) (size 
     unfolding run_fits ◌and◌
     fits-same = rw size
 
-    run_refused : run_refusal f e.book e.year l e.reports ≡ some (settled (or_else look (board-last room)))
+    run_refused : run_refusal f e.book e.year l e.reports ≡ Some (settled (or_else look (board-last room)))
     unfolding run_refusal
     run_refused =
         ap (λ (v : Option Answer). or_else look (or_else v made.refused)) (lent-astray (run_fits (basin_of f) l e.reports))

@@ -1,8 +1,8 @@
 -- A month call on the tally's board: it is refused just where the tally refuses it, and leaves what the tally says. Assumes nothing.
+use Rattle.std.specs.Prelude.{Option, None, Some}
 use mathlib.Core.Path.{◌≡◌, refl, ap, ◌∙◌}
 use mathlib.Core.Bool.{Bool, true, false}
 use mathlib.Core.List.{List}
-use mathlib.Core.Option.{Option, none, some}
 use Prim.Native.Nat.{ℕ}
 use lib.ListN.{length}
 use Rattle.general.proofs.Tests.{eqb_same, and-true}
@@ -69,7 +69,7 @@ module _ (f : List ℕ) (ok : check_of f ≡ AcceptedFile) (acc : Accepted (basi
 
   settled : (e : MonthCall) (v : Option Answer) → refusal b (call_of e) ≡ v → e.outcome ≡ month_settled v b e.runoff (tally_board b t) e.report → Settled v e
   unfolding month_settled answer_judged after_judged
-  settled e none w q =
+  settled e None w q =
       let c : Call = call_of e in
       let run : run_of b e.runoff (tally_board b t) ≡ next_run b t c = tally-run b acc t p e.runoff (length e.report) in
       record {
@@ -77,7 +77,7 @@ module _ (f : List ℕ) (ok : check_of f ≡ AcceptedFile) (acc : Accepted (basi
         report = tells b acc t p c w e.report e.outcome.report refl (ap (λ (o : Outcome). o.report) q ∙ ap (λ (r : MonthRun). report_of b r e.report) run);
         board = ap (λ (o : Outcome). o.board) q ∙ tally-next b acc t p c;
       }
-  settled e (some a) w q = record { answer = ap (λ (o : Outcome). o.answer) q; report = ap (λ (o : Outcome). o.report) q; board = ap (λ (o : Outcome). o.board) q }
+  settled e (Some a) w q = record { answer = ap (λ (o : Outcome). o.answer) q; report = ap (λ (o : Outcome). o.report) q; board = ap (λ (o : Outcome). o.board) q }
 
   pub month-settled : (e : MonthCall) → MonthMeets f e.runoff (tally_board b t) e.report e.outcome → Settled (refusal b (call_of e)) e
   unfolding month_of

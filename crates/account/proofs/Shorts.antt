@@ -1,8 +1,8 @@
 -- The short months answered on the tally's board are those of its grants. Assumes nothing.
+use Rattle.std.specs.Prelude.{Option, None}
 use mathlib.Core.Path.{◌≡◌, sym, ap, ◌∙◌}
 use mathlib.Core.Bool.{Bool, false}
 use mathlib.Core.List.{List}
-use mathlib.Core.Option.{Option, none}
 use Prim.Native.Nat.{ℕ, ◌<◌}
 use native.Mathlib.Omega.{arith}
 use lib.ListN.{length, get_or}
@@ -42,7 +42,7 @@ module _ (f : List ℕ) (ok : check_of f ≡ AcceptedFile) (acc : Accepted (basi
   b = basin_of f
 
   -- on the board of a tally that stands well nothing is refused
-  board-clear : (t : Tally) → Possible b (standing b t) → stock_refusal f (tally_board b t) ≡ none
+  board-clear : (t : Tally) → Possible b (standing b t) → stock_refusal f (tally_board b t) ≡ None
   unfolding tally_board
   board-clear t p = clear_none f (tally_board b t) (record { file-ok = ok; size = board-length b t.carried (pending b t.start t.months); board-ok = tally-possible b acc t p })
 

@@ -1,7 +1,7 @@
 -- The report of a month: told number by number it is told whole, and an accepted call tells it. Assumes nothing.
+use Rattle.std.specs.Prelude.{None}
 use mathlib.Core.Path.{◌≡◌, sym, ap, ◌∙◌}
 use mathlib.Core.List.{List}
-use mathlib.Core.Option.{none}
 use Prim.Native.Nat.{ℕ, ◌+◌, ◌-◌, ◌≤◌}
 use native.Mathlib.Omega.{arith}
 use lib.ListN.{length, get_or, drop}
@@ -47,11 +47,11 @@ all_told b h before after t n = report-by-parts b h before n after (record {
 -- ---- told by an accepted month
 
 -- an accepted call lends a report that is long enough
-report-fits : (b : Basin) (c : Call) → refusal b c ≡ none → report_length b ≤ c.report
+report-fits : (b : Basin) (c : Call) → refusal b c ≡ None → report_length b ≤ c.report
 unfolding lists_fit
 report-fits b c e = le_of (both_of (accepted-fits b c e)).1
 
-module _ (b : Basin) (acc : Accepted b) (t : Tally) (p : Possible b (standing b t)) (c : Call) (accepted : refusal b c ≡ none) where
+module _ (b : Basin) (acc : Accepted b) (t : Tally) (p : Possible b (standing b t)) (c : Call) (accepted : refusal b c ≡ None) where
   -- after the last right nothing is negative
   closed-sound : (w : ℕ) → Sound (level_at (next_run b t c).closed.levels w)
   unfolding next_run standing

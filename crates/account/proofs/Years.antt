@@ -1,8 +1,8 @@
 -- A year run on the tally's board: it is refused just where the tally refuses it, and leaves what the tally says of each of its months. Assumes nothing.
+use Rattle.std.specs.Prelude.{Option, None, Some}
 use mathlib.Core.Path.{◌≡◌, refl, sym, ap, ◌∙◌, subst}
 use mathlib.Core.Bool.{Bool, true}
 use mathlib.Core.List.{List, [], ◌∷◌, map}
-use mathlib.Core.Option.{Option, none, some}
 use Prim.Native.Nat.{ℕ, ◌*◌, ◌≤◌}
 use native.Mathlib.Nat.{mul-le-mul, suc-mul}
 use native.Mathlib.Omega.{arith}
@@ -62,7 +62,7 @@ module _ (f : List ℕ) (ok : check_of f ≡ AcceptedFile) (acc : Accepted (basi
     first-board = first-settled.board ∙ ap (λ (c : Call). tally_board b (after_call b t c)) least
 
     -- where it is accepted it tells the tally's month, and its report is as long as the part
-    first-tells : refusal b (least_call b r) ≡ none → Tells b (next_run b t (least_call b r)) (take n old) (first t r old).outcome.report
+    first-tells : refusal b (least_call b r) ≡ None → Tells b (next_run b t (least_call b r)) (take n old) (first t r old).outcome.report
     first-tells e =
         subst (λ (c : Call). Tells b (next_run b t c) (take n old) (first t r old).outcome.report) least
         (subst (λ (v : Option Answer). MonthReport v b t (first t r old)) (ap (refusal b) least ∙ e) first-settled.report)
@@ -93,7 +93,7 @@ module _ (f : List ℕ) (ok : check_of f ≡ AcceptedFile) (acc : Accepted (basi
       ap (λ (l : List ℕ). (calls_made f rs l (drop n old)).board) (first-board t p r old o) ∙ calls-board (after_call b t c) (call-possible b acc t c p) rs (drop n old) (room-rest rs old r h)
 
   -- and where none is refused, each tells the tally's month on its own part of the list
-  calls-told : (t : Tally) → Possible b (standing b t) → (rs : List (List ℕ)) (old : List ℕ) → length rs * n ≤ length old → first_refusal b (map (least_call b) rs) ≡ none
+  calls-told : (t : Tally) → Possible b (standing b t) → (rs : List (List ℕ)) (old : List ℕ) → length rs * n ≤ length old → first_refusal b (map (least_call b) rs) ≡ None
       → TellsEach b t (map (least_call b) rs) old (calls_made f rs (tally_board b t) old).reports
   unfolding calls_made first_refusal
   calls-told t p [] old h e = refl
@@ -159,11 +159,11 @@ module _ (f : List ℕ) (ok : check_of f ≡ AcceptedFile) (acc : Accepted (basi
         (λ h. calls-refused t p left e.reports (room-left (unless-none (room_for_year b (length e.reports)) Lists h)) ∙ ap (first_refusal b) calls_are))
 
     -- where the tally refuses nothing, there is room, and none of the calls is refused
-    run_none : tally.run_refusal b t y ≡ none → (room_for_year b (length e.reports) ≡ true) × (first_refusal b (calls_in b t y) ≡ none)
+    run_none : tally.run_refusal b t y ≡ None → (room_for_year b (length e.reports) ≡ true) × (first_refusal b (calls_in b t y) ≡ None)
     unfolding tally.run_refusal
     run_none h =
         let lists : Option Answer = unless (room_for_year b (length e.reports)) Lists in
-        let rest : or_else lists (first_refusal b (calls_in b t y)) ≡ none = or-second y.lookup (or_else lists (first_refusal b (calls_in b t y))) h in
+        let rest : or_else lists (first_refusal b (calls_in b t y)) ≡ None = or-second y.lookup (or_else lists (first_refusal b (calls_in b t y))) h in
         (unless-none (room_for_year b (length e.reports)) Lists (or-first lists (first_refusal b (calls_in b t y)) rest), or-second lists (first_refusal b (calls_in b t y)) rest)
 
     -- once the refusal is settled as v
@@ -178,16 +178,16 @@ module _ (f : List ℕ) (ok : check_of f ≡ AcceptedFile) (acc : Accepted (basi
 
     settled : (v : Option Answer) → tally.run_refusal b t y ≡ v → e.outcome ≡ run_settled v (length left) made board e.reports → RunSettled v
     unfolding run_settled run_answer run_counts after_calls
-    settled none w q =
+    settled None w q =
         let h = run_none w in
         let room : length left * n ≤ length e.reports = room-left h.0 in
         record {
-          answer = ap (λ (o : Outcome). o.answer) q ∙ ap (run_answer none) count_same;
+          answer = ap (λ (o : Outcome). o.answer) q ∙ ap (run_answer None) count_same;
           report = subst (λ (l : List ℕ). TellsEach b t (calls_in b t y) e.reports l) (sym (ap (λ (o : Outcome). o.report) q))
               (subst (λ (cs : List Call). TellsEach b t cs e.reports made.reports) calls_are (calls-told t p left e.reports room (ap (first_refusal b) calls_are ∙ h.1)));
           board-left = ap (λ (o : Outcome). o.board) q ∙ calls-board t p left e.reports room ∙ ap (λ (cs : List Call). tally_board b (after_calls b t cs)) calls_are;
         }
-    settled (some a) w q = record { answer = ap (λ (o : Outcome). o.answer) q; report = ap (λ (o : Outcome). o.report) q; board-left = ap (λ (o : Outcome). o.board) q }
+    settled (Some a) w q = record { answer = ap (λ (o : Outcome). o.answer) q; report = ap (λ (o : Outcome). o.report) q; board-left = ap (λ (o : Outcome). o.board) q }
 
     pub follow-year : YearMeets f e.book e.year board e.reports e.outcome → Follows f (tallied t) (year_event e)
     unfolding year_of entry_answer after_entry counts_as

@@ -1,8 +1,7 @@
 -- A run of calls is accounted for: one claim about any list of calls that can change a board, months, years, fresh and recalls, accepted and refused in any
 -- mix, from any board. What the calls answer and leave is what the tally says (01, "The tally of a list of months"; 02, Nos. 4 to 7). It cites only
 -- definitions; proofs/Theorems.antt proves it.
-use Rattle.std.specs.Prelude.{◌≡◌, true, false, cond, List, [], ◌∷◌, map, ℕ, ◌<◌, ltb, length}
-use Rattle.std.proofs.Math.Option.{some}
+use Rattle.std.specs.Prelude.{◌≡◌, true, false, cond, List, [], ◌∷◌, map, ℕ, ◌<◌, ltb, length, Some}
 use Rattle.general.specs.Sums.{only}
 use Rattle.general.specs.Tables.{All}
 use Rattle.rules.specs.Basin.{Basin, rows}
@@ -83,8 +82,8 @@ after_events f st (e ∷ es) = after_events f (after_event f st e) es
 
 -- Astray the board is the cause of the refusal, unless another comes before it.
 unfoldable pub stray_answer : Basin → Entry → Answer
-stray_answer b (monthly c) = settled (or_else (unless (lists_fit b c) Lists) (some (told Board)))
-stray_answer b (yearly y) = settled (or_else y.lookup (or_else (unless (room_for_year b y.room) Lists) (some (told Board))))
+stray_answer b (monthly c) = settled (or_else (unless (lists_fit b c) Lists) (Some (told Board)))
+stray_answer b (yearly y) = settled (or_else y.lookup (or_else (unless (room_for_year b y.room) Lists) (Some (told Board))))
 
 abbrev pub answers_entry : Basin → Standing → Entry → Answer
 answers_entry b (tallied t) x = entry_answer b t x

@@ -1,6 +1,5 @@
 -- The reports of accepted months, told number by number against the tally's months.
-use Rattle.std.specs.Prelude.{◌≡◌, List, [], ◌∷◌, ℕ, ◌≤◌, ◌<◌, length, get_or, take, drop, pos}
-use Rattle.std.proofs.Math.Option.{Option, none, some}
+use Rattle.std.specs.Prelude.{◌≡◌, List, [], ◌∷◌, ℕ, ◌≤◌, ◌<◌, length, get_or, take, drop, pos, Option, None, Some}
 use Rattle.rules.specs.Basin.{Basin, rows}
 use Rattle.rules.specs.River.{flow_at, available_at}
 use Rattle.rules.specs.Month.{MonthRun, reason_number, grant_at, deep_of}
@@ -39,8 +38,8 @@ call_of e = call_with e.runoff e.report
 
 -- an accepted month call tells the tally's month; a refused one leaves the report as it was
 abbrev pub MonthReport : Option Answer → Basin → Tally → MonthCall → Type 0
-MonthReport none b t e = Tells b (next_run b t (call_of e)) e.report e.outcome.report
-MonthReport (some a) b t e = e.outcome.report ≡ e.report
+MonthReport None b t e = Tells b (next_run b t (call_of e)) e.report e.outcome.report
+MonthReport (Some a) b t e = e.outcome.report ≡ e.report
 
 -- the reports of calls one after another, each on a part of the list as long as a report; beyond them the list is as it was
 abbrev pub TellsEach : Basin → Tally → List Call → List ℕ → List ℕ → Type 0
@@ -51,5 +50,5 @@ TellsEach b t (c ∷ cs) before after =
 
 -- an accepted year run tells each of its months; a refused one leaves the list as it was
 abbrev pub RunReports : Option Answer → Basin → Tally → List Call → YearCall → Type 0
-RunReports none b t cs e = TellsEach b t cs e.reports e.outcome.report
-RunReports (some a) b t cs e = e.outcome.report ≡ e.reports
+RunReports None b t cs e = TellsEach b t cs e.reports e.outcome.report
+RunReports (Some a) b t cs e = e.outcome.report ≡ e.reports

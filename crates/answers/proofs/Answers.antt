@@ -1,8 +1,8 @@
 -- What an answer says of what was lent. Assumes nothing.
+use Rattle.std.specs.Prelude.{Option, None, Some}
 use mathlib.Core.Path.{◌≡◌, refl, sym, ap, ◌∙◌}
 use mathlib.Core.Bool.{Bool, true, false}
 use mathlib.Core.List.{List}
-use mathlib.Core.Option.{Option, none, some}
 use Prim.Native.Nat.{ℕ}
 use native.Mathlib.Omega.{arith}
 use Rattle.rules.specs.declared.Verdict.{Verdict}
@@ -35,16 +35,16 @@ pub file-settled : (f : List ℕ) (v : Verdict) → v ≡ check_of f → told v 
 unfolding file_refusal
 file-settled f v e = verdict-settled v ∙ ap (λ (x : Verdict). settled (verdict_refusal x)) e
 
-pub no-refusal : (f : List ℕ) → check_of f ≡ Accepted → file_refusal f ≡ none
+pub no-refusal : (f : List ℕ) → check_of f ≡ Accepted → file_refusal f ≡ None
 unfolding file_refusal verdict_refusal
 no-refusal f acc = rw acc
 
 -- ---- a number other than 0 is a refusal
 
-pub settled-some : (o : Option Answer) (a : Answer) → a ≡ settled o → (a.number ≡ 0 → ⊥) → o ≡ some a
+pub settled-some : (o : Option Answer) (a : Answer) → a ≡ settled o → (a.number ≡ 0 → ⊥) → o ≡ Some a
 unfolding settled
-settled-some none a e n = absurd (n (ap (λ (x : Answer). x.number) e))
-settled-some (some x) a e n = ap some (sym e)
+settled-some None a e n = absurd (n (ap (λ (x : Answer). x.number) e))
+settled-some (Some x) a e n = ap Some (sym e)
 
 -- ---- number 0 clears every test
 
@@ -110,7 +110,7 @@ module _ (f : List ℕ) (fits : Bool) (board : List ℕ) where
       unfolding lent_refusal or_else unless settled
       lent-good n = rw (no-refusal f acc, fit, n)
 
-      pub lent_none : possible (basin_of f) board ≡ true → lent ≡ none
+      pub lent_none : possible (basin_of f) board ≡ true → lent ≡ None
       unfolding lent_refusal or_else unless
       lent_none n = rw (no-refusal f acc, fit, n)
 

@@ -1,8 +1,8 @@
 -- A refusal has a number. Assumes nothing.
+use Rattle.std.specs.Prelude.{Option, None, Some}
 use mathlib.Core.Path.{◌≡◌, refl, sym, ap, ◌∙◌}
 use mathlib.Core.Bool.{Bool, true, false}
 use mathlib.Core.List.{List}
-use mathlib.Core.Option.{Option, none, some}
 use Prim.Native.Nat.{ℕ}
 use native.Mathlib.Omega.{arith}
 use Rattle.rules.specs.declared.Verdict.{Verdict}
@@ -15,19 +15,19 @@ use Rattle.boards.specs.Board.{possible}
 use Rattle.answers.specs.Answers.{verdict_refusal, file_refusal, lent_refusal, settled}
 
 abbrev pub Numbered : Option Answer → Type 0
-Numbered none = Unit {0}
-Numbered (some a) = a.number ≡ 0 → ⊥
+Numbered None = Unit {0}
+Numbered (Some a) = a.number ≡ 0 → ⊥
 
 -- so an answer of number 0 says that nothing is refused
-pub clear_none : (o : Option Answer) → Numbered o → (a : Answer) → a ≡ settled o → a.number ≡ 0 → o ≡ none
+pub clear_none : (o : Option Answer) → Numbered o → (a : Answer) → a ≡ settled o → a.number ≡ 0 → o ≡ None
 unfolding settled
-clear_none none w a e n = refl
-clear_none (some x) w a e n = absurd (w (ap (λ (q : Answer). q.number) (sym e) ∙ n))
+clear_none None w a e n = refl
+clear_none (Some x) w a e n = absurd (w (ap (λ (q : Answer). q.number) (sym e) ∙ n))
 
 pub or-numbered : (x y : Option Answer) → Numbered x → Numbered y → Numbered (or_else x y)
 unfolding or_else
-or-numbered none y h l = l
-or-numbered (some a) y h l = h
+or-numbered None y h l = l
+or-numbered (Some a) y h l = h
 
 pub unless-numbered : (t : Bool) (v : Verdict) → ((told v).number ≡ 0 → ⊥) → Numbered (unless t v)
 unfolding unless
@@ -36,8 +36,8 @@ unless-numbered false v h = h
 
 pub over-numbered : (o : Option ℕ) → Numbered (over_answer o)
 unfolding over_answer
-over-numbered none = tt
-over-numbered (some i) = λ e. omega (arith, e)
+over-numbered None = tt
+over-numbered (Some i) = λ e. omega (arith, e)
 
 verdict-numbered : (v : Verdict) → Numbered (verdict_refusal v)
 unfolding verdict_refusal

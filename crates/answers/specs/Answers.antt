@@ -1,6 +1,5 @@
 -- What the calls turn down, in the order of the numbers (01, "Numbers for what is turned down").
-use Rattle.std.specs.Prelude.{Bool, cond, List, ℕ, eqb}
-use Rattle.std.proofs.Math.Option.{Option, none, some}
+use Rattle.std.specs.Prelude.{Bool, cond, List, ℕ, eqb, Option, None, Some}
 use Rattle.rules.specs.declared.Verdict.{Verdict}
 use Rattle.rules.specs.declared.Verdict.TheVariants.{Accepted, Lists, Board}
 use Rattle.rules.specs.Answers.{Answer, number_of, told, or_else, unless}
@@ -15,7 +14,7 @@ accepted = told Accepted
 -- ---- refusals: none where nothing is turned down
 
 unfoldable pub verdict_refusal : Verdict → Option Answer
-verdict_refusal v = cond (eqb (number_of v) 0) none (some (told v))
+verdict_refusal v = cond (eqb (number_of v) 0) None (Some (told v))
 
 -- the file, by its check: 1 to 5
 unfoldable pub file_refusal : List ℕ → Option Answer
@@ -33,5 +32,5 @@ answer_of a = record { number = a.number; place = a.place }
 
 -- the answer that a refusal settles: acceptance where there is none
 unfoldable pub settled : Option Answer → Answer
-settled none = accepted
-settled (some a) = a
+settled None = accepted
+settled (Some a) = a

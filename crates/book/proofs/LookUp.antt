@@ -1,12 +1,12 @@
 -- Laws of the look-up, and what a caller learns from its answers. Assumes nothing.
+use Rattle.std.specs.Prelude.{Option, None, Some}
 use mathlib.Core.Path.{◌≡◌, refl, sym, ap, ◌∙◌}
 use mathlib.Core.Bool.{Bool, true, false}
 use mathlib.Core.List.{List, []}
-use mathlib.Core.Option.{Option, none, some}
 use Prim.Native.Nat.{ℕ, ◌≤◌, ◌<◌}
 use native.Mathlib.Omega.{arith}
 use lib.ListN.{length, drop, length-take}
-use Rattle.general.specs.Tests.{is_some}
+use Rattle.std.specs.Prelude.{is_some}
 use Rattle.general.proofs.Search.{first-within, some_of}
 use Rattle.rules.specs.Basin.{rows}
 use Rattle.rules.specs.declared.Verdict.TheVariants.{Accepted, Book, Year}
@@ -21,14 +21,14 @@ use Rattle.answers.proofs.Numbered.{Numbered, clear_none, or-numbered, unless-nu
 use Rattle.book.specs.Book.{year_count, offset_at, body_size, book_ok, listed_at, body_of, body_where, listed_body, book_refusal, lookup_refusal, part_where, year_part, Kept}
 use Rattle.book.proofs.Bodies.{body-length}
 
-none_of : {A : Type 0} (o : Option A) → is_some o ≡ false → o ≡ none
-none_of none e = refl
-none_of (some x) e = absurd (let z : ◌≡◌ {A = ℕ} 0 1 = cc in omega arith)
+none_of : {A : Type 0} (o : Option A) → is_some o ≡ false → o ≡ None
+none_of None e = refl
+none_of (Some x) e = absurd (let z : ◌≡◌ {A = ℕ} 0 1 = cc in omega arith)
 
 body-most : (n : ℕ) (k : List ℕ) (o : Option ℕ) → length (body_where o n k) ≤ body_size n
 unfolding body_where body_of
-body-most n k none = omega arith
-body-most n k (some i) = omega (arith, length-take (body_size n) (drop (offset_at k i) k))
+body-most n k None = omega arith
+body-most n k (Some i) = omega (arith, length-take (body_size n) (drop (offset_at k i) k))
 
 module _ (f k : List ℕ) where
   -- ---- file and book
@@ -55,15 +55,15 @@ module _ (f k : List ℕ) where
 
   -- a file and a book that are not refused
   pub record Clear : Type 0 where
-    pub refused : book_refusal f k ≡ none
+    pub refused : book_refusal f k ≡ None
     pub file : check_of f ≡ Accepted
     pub book : Kept (rows (basin_of f)) k
 
-  file-clear : file_refusal f ≡ none → check_of f ≡ Accepted
+  file-clear : file_refusal f ≡ None → check_of f ≡ Accepted
   unfolding settled
   file-clear e = accepted-of f accepted (ap settled (sym e)) refl
 
-  clear-from : book_refusal f k ≡ none → Clear
+  clear-from : book_refusal f k ≡ None → Clear
   unfolding book_refusal
   clear-from e =
       let acc : check_of f ≡ Accepted = file-clear (or-first (file_refusal f) _ e) in
@@ -136,19 +136,19 @@ module _ (f k : List ℕ) where
     lookup-numbered = or-numbered (book_refusal f k) (unless (is_some (listed_at k y)) Year) book-numbered (unless-numbered (is_some (listed_at k y)) Year (λ e. omega (arith, e)))
 
     pub record Found : Type 0 where
-      pub refused : lookup_refusal f k y ≡ none
+      pub refused : lookup_refusal f k y ≡ None
       pub file : check_of f ≡ Accepted
       pub size : length (year_part f k y) ≡ body_size (rows (basin_of f))
 
     -- a year that is not refused
-    pub found_none : lookup_refusal f k y ≡ none → Found
+    pub found_none : lookup_refusal f k y ≡ None → Found
     unfolding lookup_refusal
     found_none e =
         let c = clear-from (or-first (book_refusal f k) _ e) in
         let t : is_some (listed_at k y) ≡ true = unless-none _ Year (or-second (book_refusal f k) _ e) in
         record { refused = e; file = c.file; size = ap length (sym (part_by c true t)) ∙ listed-length c t }
 
-    empty-some : (a : Answer) → lookup_refusal f k y ≡ some a → year_part f k y ≡ []
+    empty-some : (a : Answer) → lookup_refusal f k y ≡ Some a → year_part f k y ≡ []
     unfolding year_part part_where
     empty-some a e = rw e
 
@@ -158,22 +158,22 @@ module _ (f k : List ℕ) where
     part-most = go (lookup_refusal f k y)
       where
         go : (v : Option Answer) → length (part_where v f k y) ≤ body_size (rows (basin_of f))
-        go none = body-most (rows (basin_of f)) k (listed_at k y)
-        go (some a) = omega arith
+        go None = body-most (rows (basin_of f)) k (listed_at k y)
+        go (Some a) = omega arith
 
     -- a part that is not empty is the body of a year that was found
     pub found : (length (year_part f k y) ≡ 0 → ⊥) → Found
     found h = go (lookup_refusal f k y) refl
       where
         go : (v : Option Answer) → lookup_refusal f k y ≡ v → Found
-        go none e = found_none e
-        go (some a) e = absurd (h (ap length (empty-some a e)))
+        go None e = found_none e
+        go (Some a) e = absurd (h (ap length (empty-some a e)))
 
     -- an empty part says that the look-up is refused, with a number
-    pub not_found : length (year_part f k y) ≡ 0 → (a : Answer) → a ≡ settled (lookup_refusal f k y) → (a.number ≡ 0 → ⊥) × (lookup_refusal f k y ≡ some a)
+    pub not_found : length (year_part f k y) ≡ 0 → (a : Answer) → a ≡ settled (lookup_refusal f k y) → (a.number ≡ 0 → ⊥) × (lookup_refusal f k y ≡ Some a)
     not_found h a e = (numbered, settled-some (lookup_refusal f k y) a e numbered)
       where
-        missing : lookup_refusal f k y ≡ none → ⊥
+        missing : lookup_refusal f k y ≡ None → ⊥
         missing q = let g = found_none q in omega (arith, g.size, h, (accepted-facts f g.file).connected.some_row)
 
         numbered : a.number ≡ 0 → ⊥

@@ -1,8 +1,7 @@
 -- The runoff book (02, No. 4): many water years in one file, and the look-up of one. A book belongs to basins of n stations: it begins with a table of contents,
 -- and the bodies of its years follow. Any bytes may be lent. All numbers are natural numbers, so no offset or size can wrap.
-use Rattle.std.specs.Prelude.{◌≡◌, Bool, true, ◌||◌, List, [], ℕ, ◌+◌, ◌-◌, ◌*◌, ◌≤◌, leb, ltb, eqb, length, take, drop}
-use Rattle.std.proofs.Math.Option.{Option, none, some}
-use Rattle.general.specs.Tests.{◌and◌, between, first_at, all_to, is_some}
+use Rattle.std.specs.Prelude.{◌≡◌, Bool, true, ◌||◌, List, [], ℕ, ◌+◌, ◌-◌, ◌*◌, ◌≤◌, leb, ltb, eqb, length, take, drop, Option, None, Some, is_some}
+use Rattle.general.specs.Tests.{◌and◌, between, first_at, all_to}
 use Rattle.rules.specs.Basin.{rows}
 use Rattle.rules.specs.declared.Verdict.TheVariants.{Book, Year}
 use Rattle.rules.specs.Answers.{Answer, or_else, unless}
@@ -82,8 +81,8 @@ unfoldable pub body_of : ℕ → List ℕ → ℕ → List ℕ
 body_of n k i = take (body_size n) (drop (offset_at k i) k)
 
 unfoldable pub body_where : Option ℕ → ℕ → List ℕ → List ℕ
-body_where none n k = []
-body_where (some i) n k = body_of n k i
+body_where None n k = []
+body_where (Some i) n k = body_of n k i
 
 -- the body of a year; nothing where the year is not listed
 abbrev pub listed_body : ℕ → List ℕ → ℕ → List ℕ
@@ -100,8 +99,8 @@ unfoldable pub lookup_refusal : List ℕ → List ℕ → ℕ → Option Answer
 lookup_refusal f k y = or_else (book_refusal f k) (unless (is_some (listed_at k y)) Year)
 
 unfoldable pub part_where : Option Answer → List ℕ → List ℕ → ℕ → List ℕ
-part_where none f k y = listed_body (rows (basin_of f)) k y
-part_where (some a) f k y = []
+part_where None f k y = listed_body (rows (basin_of f)) k y
+part_where (Some a) f k y = []
 
 -- what the look-up hands out: the year's body as a part of the book, nothing where it is refused
 unfoldable pub year_part : List ℕ → List ℕ → ℕ → List ℕ

@@ -1,6 +1,5 @@
 -- A book of two years for one station, byte by byte, with what is found in it, and books like it with one fault each.
-use Rattle.std.specs.Prelude.{◌≡◌, true, false, List, [], ◌∷◌, ◌++◌, ℕ, zero, suc, ◌+◌, ◌*◌, ◌/◌, ◌%◌, replicate}
-use Rattle.std.proofs.Math.Option.{none, some}
+use Rattle.std.specs.Prelude.{◌≡◌, true, false, List, [], ◌∷◌, ◌++◌, ℕ, zero, suc, ◌+◌, ◌*◌, ◌/◌, ◌%◌, replicate, None, Some}
 use Rattle.book.specs.Book.{book_ok, listed_at, listed_body}
 
 -- a number in four bytes, the least significant first
@@ -23,10 +22,10 @@ book_of n = bytes4 n ++ entries_from n 1800 (4 + 8 * n) ++ replicate (48 * n) 0
 pub record BooksChecked : Type 0 where
   -- 20 bytes of contents, then 48 for each year; both ends of the range are years
   pub good : book_ok 1 (book_with 1800 20 2200 68 []) ≡ true
-  pub found : listed_at (book_with 1800 20 2200 68 []) 2200 ≡ some 1
+  pub found : listed_at (book_with 1800 20 2200 68 []) 2200 ≡ Some 1
   pub first_body : listed_body 1 (book_with 1800 20 2200 68 []) 1800 ≡ replicate 48 7
   pub last_body : listed_body 1 (book_with 1800 20 2200 68 []) 2200 ≡ replicate 48 9
-  pub not_listed : listed_at (book_with 1800 20 2200 68 []) 1801 ≡ none
+  pub not_listed : listed_at (book_with 1800 20 2200 68 []) 1801 ≡ None
   pub no_body : listed_body 1 (book_with 1800 20 2200 68 []) 1801 ≡ []
   -- no year at all is four bytes, for any number of stations, and not a byte more or less
   pub empty : book_ok 64 (bytes4 0) ≡ true

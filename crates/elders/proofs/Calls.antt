@@ -1,7 +1,7 @@
 -- Two accepted month calls on one board: what their reports tell of the first rights. Assumes nothing.
+use Rattle.std.specs.Prelude.{Option, None, Some}
 use mathlib.Core.Path.{◌≡◌, refl, sym, ap, ◌∙◌}
 use mathlib.Core.List.{List, [], ◌∷◌, map}
-use mathlib.Core.Option.{Option, none, some}
 use Prim.Native.Nat.{ℕ, zero, suc, ◌≤◌, ◌<◌}
 use native.Mathlib.Omega.{arith}
 use lib.ListN.{length, get_or, take, drop}
@@ -69,15 +69,15 @@ module _ (a b : Basin) (e : SameRiver a b) (runoff board : List ℕ) where
 -- ---- an accepted call
 
 -- where the month is settled with number 0, nothing was refused
-settled-none : (v : Option Answer) → Numbered v → (b : Basin) (runoff board report : List ℕ) → (month_settled v b runoff board report).answer.number ≡ 0 → v ≡ none
+settled-none : (v : Option Answer) → Numbered v → (b : Basin) (runoff board report : List ℕ) → (month_settled v b runoff board report).answer.number ≡ 0 → v ≡ None
 unfolding month_settled
-settled-none none w b runoff board report n = refl
-settled-none (some a) w b runoff board report n = absurd (w n)
+settled-none None w b runoff board report n = refl
+settled-none (Some a) w b runoff board report n = absurd (w n)
 
-first-none : (x y : Option Answer) → or_else x y ≡ none → x ≡ none
+first-none : (x y : Option Answer) → or_else x y ≡ None → x ≡ None
 unfolding or_else
-first-none none y e = refl
-first-none (some a) y e = e
+first-none None y e = refl
+first-none (Some a) y e = e
 
 module _ (f runoff board report : List ℕ) (o : Outcome) (c : AcceptedCall f runoff board report o) where
   abbrev b : Basin
@@ -86,12 +86,12 @@ module _ (f runoff board report : List ℕ) (o : Outcome) (c : AcceptedCall f ru
   abbrev lent : Option Answer
   lent = lent_refusal f (all_fit b runoff board report) board
 
-  not-refused : month_refusal f runoff board report ≡ none
+  not-refused : month_refusal f runoff board report ≡ None
   unfolding month_of
   not-refused = settled-none (month_refusal f runoff board report) (month-numbered f runoff board report) b runoff board report
       (ap (λ (x : Outcome). x.answer.number) (sym c.meets) ∙ c.number)
 
-  not-lent : lent ≡ none
+  not-lent : lent ≡ None
   unfolding month_refusal
   not-lent = first-none lent (over_answer (over_limit runoff)) not-refused
 
@@ -99,7 +99,7 @@ module _ (f runoff board report : List ℕ) (o : Outcome) (c : AcceptedCall f ru
   unfolding settled
   all-clear = lent-clear f (all_fit b runoff board report) board (settled lent) refl (ap (λ (v : Option Answer). (settled v).number) not-lent)
 
-  pub not-over : over_answer (over_limit runoff) ≡ none
+  pub not-over : over_answer (over_limit runoff) ≡ None
   unfolding month_refusal or_else
   not-over = ap (λ (v : Option Answer). or_else v (over_answer (over_limit runoff))) (sym not-lent) ∙ not-refused
 

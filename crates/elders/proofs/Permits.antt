@@ -1,8 +1,8 @@
 -- New permits: a board that is possible without them is possible with them, and a month that is accepted without them is accepted with them. Assumes nothing.
+use Rattle.std.specs.Prelude.{Option, None}
 use mathlib.Core.Path.{◌≡◌, sym, ap, ◌∙◌}
 use mathlib.Core.Bool.{Bool, true, false}
 use mathlib.Core.List.{List}
-use mathlib.Core.Option.{Option, none}
 use Prim.Native.Nat.{ℕ, suc, ◌^◌, ◌≤◌, ◌<◌}
 use native.Mathlib.Omega.{arith}
 use lib.Dec.{ltb, eqb}
@@ -73,7 +73,7 @@ module _ (f g runoff board lent lent' : List ℕ) (o p : Outcome) (c : AcceptedC
       let k = fits-parts (basin_of f) runoff board lent (all-clear f runoff board lent o c).lists-ok in
       and-of (and-of (ap (λ (n : ℕ). eqb n (rows (basin_of g))) (k.0 ∙ rows_same) ∙ eqb_same (rows (basin_of g))) (leb_yes _ _ room)) (ap (λ (n : ℕ). eqb n board_length) k.2 ∙ eqb_same board_length)
 
-  not-refused : month_refusal g runoff board lent' ≡ none
+  not-refused : month_refusal g runoff board lent' ≡ None
   not-refused = only-runoff g runoff board lent' (record { file-ok = ok; lists-ok = fits-with; board-ok = can }) ∙ not-over f runoff board lent o c
 
   pub accepted-with : AcceptedCall g runoff board lent' p

@@ -1,7 +1,7 @@
 -- The season computed. By the claim the calls tell the tally's months, so that no board has to be computed. Assumes nothing.
+use Rattle.std.specs.Prelude.{Option, None}
 use mathlib.Core.Path.{◌≡◌, refl, sym, ◌∙◌, subst}
 use mathlib.Core.List.{List, [], ◌∷◌}
-use mathlib.Core.Option.{Option, none}
 use Prim.Native.Nat.{ℕ, ◌<◌}
 use native.Mathlib.Omega.{arith}
 use lib.ListN.{length}
@@ -58,8 +58,8 @@ line_in h = let g : Grant = grant_at h.turns 0 in g.from_river ∷ g.from_storag
 
 record Tallied (b : Basin) (in_october : ℕ) (october_line : List ℕ) (in_november : ℕ) (november_line : List ℕ) : Type 0 where
   some_right : 0 < length b.rights
-  october-fits : refusal b october_asked ≡ none
-  november-fits : refusal b november_asked ≡ none
+  october-fits : refusal b october_asked ≡ None
+  november-fits : refusal b november_asked ≡ None
   october_answer : entry_answer b (fresh b) (monthly october_asked) ≡ short_rights in_october
   october-line : line_in (next_run b (fresh b) october_asked) ≡ october_line
   november_answer : entry_answer b (after_october b) (monthly november_asked) ≡ short_rights in_november
@@ -75,7 +75,7 @@ tallied-so = (
 -- ---- the calls tell them
 
 -- what a month call that follows the tally tells of the first right
-line-told : (f : List ℕ) (t : Tally) (e : MonthCall) → Follows f (tallied t) (month_event e) → refusal (basin_of f) (call_of e) ≡ none → 0 < length (basin_of f).rights
+line-told : (f : List ℕ) (t : Tally) (e : MonthCall) → Follows f (tallied t) (month_event e) → refusal (basin_of f) (call_of e) ≡ None → 0 < length (basin_of f).rights
     → first_line e.outcome.report ≡ line_in (next_run (basin_of f) t (call_of e))
 line-told f t e w accepted h =
     let tells : Tells (basin_of f) (next_run (basin_of f) t (call_of e)) e.report e.outcome.report = subst (λ (v : Option Answer). MonthReport v (basin_of f) t e) accepted w.report in

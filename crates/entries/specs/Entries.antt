@@ -1,7 +1,6 @@
 -- The entries of a store of named boards (02, No. 7): four names of eight bytes, then four boards in the same order, whose numbers have eight bytes each. Entries are
 -- counted from 0.
-use Rattle.std.specs.Prelude.{Bool, List, [], ◌∷◌, ◌++◌, ℕ, ◌+◌, ◌*◌, eqb, take, drop, replicate}
-use Rattle.std.proofs.Math.Option.{Option, none, some}
+use Rattle.std.specs.Prelude.{Bool, List, [], ◌∷◌, ◌++◌, ℕ, ◌+◌, ◌*◌, eqb, take, drop, replicate, Option, None, Some}
 use Rattle.general.specs.Tables.{tab}
 use Rattle.general.specs.Tests.{all_to, first_at}
 use Rattle.numbers.specs.Bytes.{byte_at, le64_at, bytes64}
@@ -66,8 +65,8 @@ abbrev pub first_empty : List ℕ → Option ℕ
 first_empty s = first_named s no_name
 
 unfoldable pub or_first : Option ℕ → Option ℕ → Option ℕ
-or_first none later = later
-or_first (some e) later = some e
+or_first None later = later
+or_first (Some e) later = Some e
 
 -- the entry for a board to be saved: the one that has the name already, else the earliest empty one
 unfoldable pub place_for : List ℕ → List ℕ → Option ℕ
@@ -75,5 +74,5 @@ place_for s n = or_first (first_named s n) (first_empty s)
 
 -- the same as the code's look-up answers it
 abbrev pub found_of : Option ℕ → Found
-found_of none = Nothing
-found_of (some e) = Entry e
+found_of None = Nothing
+found_of (Some e) = Entry e

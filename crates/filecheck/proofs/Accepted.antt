@@ -1,4 +1,5 @@
 -- What an accepted file gives to the rules. Assumes nothing.
+use Rattle.std.specs.Prelude.{is_some}
 use mathlib.Core.Path.{◌≡◌, refl, sym, ap, ◌∙◌, subst}
 use mathlib.Core.Logic.{◌⊎◌, inl, inr}
 use mathlib.Core.Bool.{Bool, true, false, cond}
@@ -9,7 +10,7 @@ use lib.Dec.{eqb}
 use lib.ListN.{length, get_or}
 use Rattle.general.specs.Sums.{sum, sum_to}
 use Rattle.general.specs.Tables.{tab, All, Rising}
-use Rattle.general.specs.Tests.{◌and◌, has, is_some}
+use Rattle.general.specs.Tests.{◌and◌, has}
 use Rattle.general.proofs.Tests.{by_eqb, eqb-other, both_of, between-of, eq_of, le_of, lt_of}
 use Rattle.general.proofs.Search.{no-fault, some_of, all-at}
 use Rattle.general.proofs.Tables.{tab-length, sum-tab}

@@ -1,8 +1,8 @@
 -- Laws of the first at fault and of the verdicts that name it. Assumes nothing.
+use Rattle.std.specs.Prelude.{Option, None, Some}
 use mathlib.Core.Path.{◌≡◌, refl, sym, ap, ◌∙◌}
 use mathlib.Core.Bool.{Bool, true, false, not}
 use mathlib.Core.List.{List}
-use mathlib.Core.Option.{Option, none, some}
 use Prim.Native.Nat.{ℕ, ◌+◌, ◌-◌, ◌≤◌, ◌<◌}
 use native.Mathlib.Nat.{sub-zero}
 use native.Mathlib.Omega.{arith}
@@ -71,16 +71,16 @@ module _ (v : ℕ → Verdict) (ok : ℕ → Bool) (n : ℕ) where
 -- a body at fault hides the later ones
 fault-stops : (k : ℕ → Verdict) (o : Option ℕ) (later : Verdict) → (fault_or k o Accepted ≡ Accepted → ⊥) → fault_or k o Accepted ≡ fault_or k o later
 unfolding fault_or
-fault-stops k none later h = absurd (h refl)
-fault-stops k (some i) later h = refl
+fault-stops k None later h = absurd (h refl)
+fault-stops k (Some i) later h = refl
 
 -- acceptance clears a body and the later ones
-fault-clear : (k : ℕ → Verdict) (o : Option ℕ) (later : Verdict) → ((i : ℕ) → k i ≡ Accepted → ⊥) → fault_or k o later ≡ Accepted → (o ≡ none) × (later ≡ Accepted)
+fault-clear : (k : ℕ → Verdict) (o : Option ℕ) (later : Verdict) → ((i : ℕ) → k i ≡ Accepted → ⊥) → fault_or k o later ≡ Accepted → (o ≡ None) × (later ≡ Accepted)
 unfolding fault_or
-fault-clear k none later n e = (refl, e)
-fault-clear k (some i) later n e = absurd (n i e)
+fault-clear k None later n e = (refl, e)
+fault-clear k (Some i) later n e = absurd (n i e)
 
-fault-passes : (k : ℕ → Verdict) (o : Option ℕ) (later : Verdict) → o ≡ none → fault_or k o later ≡ later
+fault-passes : (k : ℕ → Verdict) (o : Option ℕ) (later : Verdict) → o ≡ None → fault_or k o later ≡ later
 unfolding fault_or
 fault-passes k o later e = rw e
 
@@ -89,25 +89,25 @@ reservoir-row : (st rs : List ℕ) (v : ℕ) → reservoir_ok st rs v ≡ true �
 unfolding reservoir_ok reservoir_plain
 reservoir-row st rs v e = lt_of (both_of (both_of (both_of (both_of (both_of e).0).0).0).0).0
 
-fault-found : (k : ℕ → Verdict) (i : ℕ) (later : Verdict) → fault_or k (some i) later ≡ k i
+fault-found : (k : ℕ → Verdict) (i : ℕ) (later : Verdict) → fault_or k (Some i) later ≡ k i
 unfolding fault_or
 fault-found k i later = refl
 
 module _ (st rs ps s : List ℕ) where
   -- what acceptance says of each body and of the later ones
-  pub stations-clear : (later : Verdict) → stations_verdict st later ≡ Accepted → (first_fault (rows_of st) (station_ok st) ≡ none) × (later ≡ Accepted)
+  pub stations-clear : (later : Verdict) → stations_verdict st later ≡ Accepted → (first_fault (rows_of st) (station_ok st) ≡ None) × (later ≡ Accepted)
   unfolding stations_verdict
   stations-clear later e = fault-clear Station _ later (λ i g. let z : ◌≡◌ {A = ℕ} 0 1 = cc in omega arith) e
 
-  pub reservoirs-clear : (later : Verdict) → reservoirs_verdict st rs later ≡ Accepted → (first_fault (reservoir_count rs) (reservoir_ok st rs) ≡ none) × (later ≡ Accepted)
+  pub reservoirs-clear : (later : Verdict) → reservoirs_verdict st rs later ≡ Accepted → (first_fault (reservoir_count rs) (reservoir_ok st rs) ≡ None) × (later ≡ Accepted)
   unfolding reservoirs_verdict
   reservoirs-clear later e = fault-clear Reservoir _ later (λ i g. let z : ◌≡◌ {A = ℕ} 0 1 = cc in omega arith) e
 
-  pub patterns-clear : (later : Verdict) → patterns_verdict ps later ≡ Accepted → (first_fault (pattern_count ps) (pattern_ok ps) ≡ none) × (later ≡ Accepted)
+  pub patterns-clear : (later : Verdict) → patterns_verdict ps later ≡ Accepted → (first_fault (pattern_count ps) (pattern_ok ps) ≡ None) × (later ≡ Accepted)
   unfolding patterns_verdict
   patterns-clear later e = fault-clear Pattern _ later (λ i g. let z : ◌≡◌ {A = ℕ} 0 1 = cc in omega arith) e
 
-  pub rights-clear : (later : Verdict) → rights_verdict st rs ps s later ≡ Accepted → (first_fault (right_count s) (right_ok st rs (pattern_count ps) s) ≡ none) × (later ≡ Accepted)
+  pub rights-clear : (later : Verdict) → rights_verdict st rs ps s later ≡ Accepted → (first_fault (right_count s) (right_ok st rs (pattern_count ps) s) ≡ None) × (later ≡ Accepted)
   unfolding rights_verdict
   rights-clear later e = fault-clear Right _ later (λ i g. let z : ◌≡◌ {A = ℕ} 0 1 = cc in omega arith) e
 
@@ -161,8 +161,8 @@ fault-place k n m ok later at h l = go (first_at n 0 bad) refl
     bad i = not (ok i)
 
     go : (o : Option ℕ) → first_at n 0 bad ≡ o → place_of (fault_or k o later) ≤ m
-    go none e = rw (fault-passes k none later refl) l
-    go (some i) e = rw (fault-found k i later, at i) (omega (arith, first-within bad n 0 i e))
+    go None e = rw (fault-passes k None later refl) l
+    go (Some i) e = rw (fault-found k i later, at i) (omega (arith, first-within bad n 0 i e))
 
 module _ (st rs ps s : List ℕ) (m : ℕ) where
   bodies-place : rows_of st ≤ m → reservoir_count rs ≤ m → pattern_count ps ≤ m → right_count s ≤ m → place_of (bodies_verdict st rs ps s) ≤ m

@@ -1,6 +1,5 @@
 -- The check of a file: what is told is the kind of fault with the lowest number, and of its records the first (01, "Numbers for what is turned down").
-use Rattle.std.specs.Prelude.{Bool, cond, List, ℕ}
-use Rattle.std.proofs.Math.Option.{Option, none, some}
+use Rattle.std.specs.Prelude.{Bool, cond, List, ℕ, Option, None, Some}
 use Rattle.general.specs.Tests.{first_fault}
 use Rattle.rules.specs.declared.Verdict.{Verdict}
 use Rattle.rules.specs.declared.Verdict.TheVariants.{Accepted, Layout, Station, Reservoir, Pattern, Right}
@@ -14,8 +13,8 @@ only_if t refusal = cond t Accepted refusal
 
 -- the first at fault, or what the later sections say
 unfoldable pub fault_or : (ℕ → Verdict) → Option ℕ → Verdict → Verdict
-fault_or v none later = later
-fault_or v (some i) later = v i
+fault_or v None later = later
+fault_or v (Some i) later = v i
 
 -- the verdict on each body
 unfoldable pub stations_verdict : List ℕ → Verdict → Verdict

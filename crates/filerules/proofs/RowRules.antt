@@ -1,4 +1,5 @@
 -- Laws of the rules of a row. Assumes nothing.
+use Rattle.std.specs.Prelude.{is_some}
 use mathlib.Core.Path.{◌≡◌, ap, ◌∙◌}
 use mathlib.Core.Bool.{Bool, true, false}
 use mathlib.Core.List.{List}
@@ -6,7 +7,7 @@ use Prim.Native.Nat.{ℕ, suc, ◌+◌, ◌<◌}
 use native.Mathlib.Omega.{arith}
 use borrow.Author.Tests.{eq-eqb, ne_eqb}
 use lib.Dec.{eqb}
-use Rattle.general.specs.Tests.{◌and◌, is_some}
+use Rattle.general.specs.Tests.{◌and◌}
 use Rattle.general.proofs.Loops.{and_no, and-not}
 use Rattle.general.proofs.Tests.{and-of}
 use Rattle.rules.specs.Path.{row_below}

@@ -1,8 +1,8 @@
 -- What a record has to be (01, "The basin file" and "The path of a row"): one test for each kind of record, a line for each rule.
 -- st, rs, ps and s are bodies; i, v and p number the records of one.
-use Rattle.std.specs.Prelude.{Bool, cond, ◌||◌, List, ℕ, suc, ◌+◌, ◌-◌, ◌*◌, leb, ltb, eqb}
+use Rattle.std.specs.Prelude.{Bool, cond, ◌||◌, List, ℕ, suc, ◌+◌, ◌-◌, ◌*◌, leb, ltb, eqb, is_some}
 use Rattle.general.specs.Sums.{sum, sum_to}
-use Rattle.general.specs.Tests.{◌and◌, between, has, all_to, is_some}
+use Rattle.general.specs.Tests.{◌and◌, between, has, all_to}
 use Rattle.rules.specs.Path.{row_below, path}
 use Rattle.records.specs.declared.rights.Kind.{Kind}
 use Rattle.records.specs.declared.rights.Kind.TheVariants.{Direct, Project, Instream, Storage}

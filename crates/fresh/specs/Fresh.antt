@@ -1,6 +1,5 @@
 -- The call fresh: the board that a basin starts from, for every file and every list, refusals included.
-use Rattle.std.specs.Prelude.{List, ◌≡◌, ℕ, ◌<◌, length, get_or}
-use Rattle.std.proofs.Math.Option.{Option, none, some}
+use Rattle.std.specs.Prelude.{List, ◌≡◌, ℕ, ◌<◌, length, get_or, Option, None, Some}
 use Rattle.places.specs.Board.{storage_place, storage_at}
 use Rattle.rules.specs.declared.Verdict.TheVariants.{Lists}
 use Rattle.rules.specs.Answers.{Answer, or_else, unless}
@@ -24,8 +23,8 @@ pub record Fresh : Type 0 where
   pub board : List ℕ
 
 unfoldable pub fresh_settled : Option Answer → List ℕ → List ℕ → Fresh
-fresh_settled none f board = record { answer = accepted; board = fresh_board (basin_of f) }
-fresh_settled (some a) f board = record { answer = a; board = board }
+fresh_settled None f board = record { answer = accepted; board = fresh_board (basin_of f) }
+fresh_settled (Some a) f board = record { answer = a; board = board }
 
 unfoldable pub fresh_of : List ℕ → List ℕ → Fresh
 fresh_of f board = fresh_settled (fresh_refusal f board) f board

@@ -1,7 +1,7 @@
 -- One turn of a loop that counts up, for each general definition. Assumes nothing.
+use Rattle.std.specs.Prelude.{None, Some}
 use mathlib.Core.Path.{◌≡◌, refl, sym, ap, ◌∙◌}
 use mathlib.Core.Bool.{Bool, true, false}
-use mathlib.Core.Option.{none, some}
 use Prim.Native.Nat.{ℕ, suc, ◌+◌, ◌-◌, ◌*◌, ◌≤◌, ◌<◌}
 use native.Mathlib.Nat.{mul-le-mul, mul-suc}
 use native.Mathlib.Numerals.{add-one}
@@ -18,13 +18,13 @@ module _ (t : ℕ → Bool) (n i : ℕ) where
   left : i < n → n - i ≡ suc (n - (i + 1))
   left h = omega arith
 
-  pub search-here : i < n → t i ≡ true → first_at (n - i) i t ≡ some i
+  pub search-here : i < n → t i ≡ true → first_at (n - i) i t ≡ Some i
   search-here h e = rw (left h) (first-here t (n - (i + 1)) i e)
 
   pub search-on : i < n → t i ≡ false → first_at (n - i) i t ≡ first_at (n - (i + 1)) (i + 1) t
   search-on h e = rw (left h) (first-later t (n - (i + 1)) i e ∙ ap (λ (k : ℕ). first_at (n - (i + 1)) k t) (sym (add-one i)))
 
-  pub search-over : n ≤ i → first_at (n - i) i t ≡ none
+  pub search-over : n ≤ i → first_at (n - i) i t ≡ None
   search-over h = let e : n - i ≡ 0 = omega arith in rw e (first-over t i)
 
 -- ---- a conjunction with a side that fails, and with a first side that holds

@@ -1,8 +1,8 @@
 -- Laws of routes whose every step goes to a later number below n. Assumes nothing.
+use Rattle.std.specs.Prelude.{Option, None, Some}
 use mathlib.Core.Path.{◌≡◌, refl, sym, ap, ◌∙◌}
 use mathlib.Core.Bool.{true, false}
 use mathlib.Core.List.{List, [], ◌∷◌}
-use mathlib.Core.Option.{Option, none, some}
 use Prim.Native.Nat.{ℕ, zero, suc, ◌+◌, ◌≤◌, ◌<◌}
 use native.Mathlib.Omega.{arith}
 use Rattle.general.specs.Routes.{follow}
@@ -12,14 +12,14 @@ use Rattle.general.proofs.Tests.{absurd-bool, by_eqb}
 use Rattle.general.proofs.Search.{has-head, has_other, has-single}
 
 abbrev pub Later : (ℕ → Option ℕ) → ℕ → Type 0
-Later next n = (r q : ℕ) → r < n → next r ≡ some q → (r < q) × (q < n)
+Later next n = (r q : ℕ) → r < n → next r ≡ Some q → (r < q) × (q < n)
 
 module _ (next : ℕ → Option ℕ) where
-  follow-step : (n r q : ℕ) → next r ≡ some q → follow next (suc n) r ≡ r ∷ follow next n q
+  follow-step : (n r q : ℕ) → next r ≡ Some q → follow next (suc n) r ≡ r ∷ follow next n q
   unfolding follow
   follow-step n r q e = rw (e, follow)
 
-  follow-end : (n r : ℕ) → next r ≡ none → follow next (suc n) r ≡ r ∷ []
+  follow-end : (n r : ℕ) → next r ≡ None → follow next (suc n) r ≡ r ∷ []
   unfolding follow
   follow-end n r e = rw (e, follow)
 
@@ -31,13 +31,13 @@ module _ (next : ℕ → Option ℕ) where
     follow-more (suc k) (suc m) i o h h' = go (next i) refl (follow-more k m)
       where
         go : (b : Option ℕ) → next i ≡ b → ((j : ℕ) → j < n → n ≤ k + j → n ≤ m + j → follow next k j ≡ follow next m j) → follow next (suc k) i ≡ follow next (suc m) i
-        go none e ih = follow-end k i e ∙ sym (follow-end m i e)
-        go (some q) e ih =
+        go None e ih = follow-end k i e ∙ sym (follow-end m i e)
+        go (Some q) e ih =
             let w = later i q o e in
             follow-step k i q e ∙ ap (λ (p : List ℕ). i ∷ p) (ih q w.1 (omega arith) (omega arith)) ∙ sym (follow-step m i q e)
 
     -- a route is its number, followed by the route of the next
-    pub route-row : (i q : ℕ) → i < n → next i ≡ some q → follow next n i ≡ i ∷ follow next n q
+    pub route-row : (i q : ℕ) → i < n → next i ≡ Some q → follow next n i ≡ i ∷ follow next n q
     route-row i q h e = go n refl
       where
         go : (k : ℕ) → n ≡ k → follow next k i ≡ i ∷ follow next k q
@@ -47,7 +47,7 @@ module _ (next : ℕ → Option ℕ) where
             follow-step k i q e ∙ ap (λ (p : List ℕ). i ∷ p) (follow-more k (suc k) q w.1 (omega arith) (omega arith))
 
     -- and its number alone where there is no next
-    pub route-end : (i : ℕ) → i < n → next i ≡ none → follow next n i ≡ i ∷ []
+    pub route-end : (i : ℕ) → i < n → next i ≡ None → follow next n i ≡ i ∷ []
     route-end i h e = go n refl
       where
         go : (k : ℕ) → n ≡ k → follow next k i ≡ i ∷ []
@@ -56,15 +56,15 @@ module _ (next : ℕ → Option ℕ) where
 
     -- by steps: a property of a number and its route holds if it holds at the end of a route and passes from the next number
     module _ (P : ℕ → List ℕ → Type 0)
-        (at-end : (r : ℕ) → r < n → next r ≡ none → P r (r ∷ []))
-        (at_row : (r q : ℕ) → r < n → next r ≡ some q → r < q → q < n → P q (follow next n q) → P r (r ∷ follow next n q)) where
+        (at-end : (r : ℕ) → r < n → next r ≡ None → P r (r ∷ []))
+        (at_row : (r q : ℕ) → r < n → next r ≡ Some q → r < q → q < n → P q (follow next n q) → P r (r ∷ follow next n q)) where
       down : (k r : ℕ) → r < n → n ≤ k + r → P r (follow next n r)
       down zero r h l = absurd (omega arith)
       down (suc k) r h l = go (next r) refl (down k)
         where
           go : (o : Option ℕ) → next r ≡ o → ((q : ℕ) → q < n → n ≤ k + q → P q (follow next n q)) → P r (follow next n r)
-          go none e ih = rw (route-end r h e) (at-end r h e)
-          go (some q) e ih = let w = later r q h e in rw (route-row r q h e) (at_row r q h e w.0 w.1 (ih q w.1 (omega arith)))
+          go None e ih = rw (route-end r h e) (at-end r h e)
+          go (Some q) e ih = let w = later r q h e in rw (route-row r q h e) (at_row r q h e w.0 w.1 (ih q w.1 (omega arith)))
 
       pub by-route : (r : ℕ) → r < n → P r (follow next n r)
       by-route r h = down n r h (omega arith)

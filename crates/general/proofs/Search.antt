@@ -1,14 +1,14 @@
 -- Laws of membership and of the first number that passes a test. Assumes nothing.
+use Rattle.std.specs.Prelude.{Option, None, Some, is_some}
 use mathlib.Core.Path.{◌≡◌, refl, sym, ap, ◌∙◌}
 use mathlib.Core.Logic.{◌≢◌}
 use mathlib.Core.Bool.{Bool, true, false, not, ◌||◌}
 use mathlib.Core.List.{List, [], ◌∷◌}
-use mathlib.Core.Option.{Option, none, some}
 use Prim.Native.Nat.{ℕ, zero, suc, ◌+◌, ◌-◌, ◌≤◌, ◌<◌}
 use native.Mathlib.Decide.{dec_lt}
 use native.Mathlib.Omega.{arith}
 use lib.Dec.{eqb}
-use Rattle.general.specs.Tests.{has, first_at, first_fault, all_to, is_some, ◌and◌}
+use Rattle.general.specs.Tests.{has, first_at, first_fault, all_to, ◌and◌}
 use Rattle.general.proofs.Tests.{absurd-bool, tests_same, eqb_same, eqb-other, by_eqb, both_of, and-of, and-true, and-three}
 
 -- ---- membership
@@ -43,7 +43,7 @@ has-once i x xs m h = by_eqb i x (λ _. has i xs ≡ true) (λ e. rw e m) (λ e.
 -- ---- the first that passes
 
 module _ (t : ℕ → Bool) where
-  pub first-here : (n i : ℕ) → t i ≡ true → first_at (suc n) i t ≡ some i
+  pub first-here : (n i : ℕ) → t i ≡ true → first_at (suc n) i t ≡ Some i
   unfolding first_at
   first-here n i e = rw (e, first_at)
 
@@ -51,26 +51,26 @@ module _ (t : ℕ → Bool) where
   unfolding first_at
   first-later n i e = rw (e, first_at)
 
-  pub first-over : (i : ℕ) → first_at 0 i t ≡ none
+  pub first-over : (i : ℕ) → first_at 0 i t ≡ None
   unfolding first_at
   first-over i = refl
 
   -- the first lies in its range
-  pub first-within : (n i q : ℕ) → first_at n i t ≡ some q → (i ≤ q) × (q < i + n)
-  first-within zero i q e = let f : none ≡ some q = sym (first-over i) ∙ e in let z : ◌≡◌ {A = ℕ} 0 1 = cc in omega arith
+  pub first-within : (n i q : ℕ) → first_at n i t ≡ Some q → (i ≤ q) × (q < i + n)
+  first-within zero i q e = let f : None ≡ Some q = sym (first-over i) ∙ e in let z : ◌≡◌ {A = ℕ} 0 1 = cc in omega arith
   first-within (suc n) i q e = go (t i) refl (first-within n (suc i) q)
     where
-      go : (b : Bool) → t i ≡ b → (first_at n (suc i) t ≡ some q → (suc i ≤ q) × (q < suc i + n)) → (i ≤ q) × (q < i + suc n)
-      go true f ih = let g : some i ≡ some q = sym (first-here n i f) ∙ e in let z : i ≡ q = cc in omega arith
+      go : (b : Bool) → t i ≡ b → (first_at n (suc i) t ≡ Some q → (suc i ≤ q) × (q < suc i + n)) → (i ≤ q) × (q < i + suc n)
+      go true f ih = let g : Some i ≡ Some q = sym (first-here n i f) ∙ e in let z : i ≡ q = cc in omega arith
       go false f ih = omega (arith, ih (sym (first-later n i f) ∙ e))
 
   -- where none passes, each fails
-  pub first-none : (n i : ℕ) → first_at n i t ≡ none → (j : ℕ) → i ≤ j → j < i + n → t j ≡ false
+  pub first-none : (n i : ℕ) → first_at n i t ≡ None → (j : ℕ) → i ≤ j → j < i + n → t j ≡ false
   first-none zero i e j l h = absurd (omega arith)
   first-none (suc n) i e j l h = go (t i) refl (first-none n (suc i))
     where
-      go : (b : Bool) → t i ≡ b → (first_at n (suc i) t ≡ none → (k : ℕ) → suc i ≤ k → k < suc i + n → t k ≡ false) → t j ≡ false
-      go true f ih = let g : some i ≡ none = sym (first-here n i f) ∙ e in absurd (let z : ◌≡◌ {A = ℕ} 0 1 = cc in omega arith)
+      go : (b : Bool) → t i ≡ b → (first_at n (suc i) t ≡ None → (k : ℕ) → suc i ≤ k → k < suc i + n → t k ≡ false) → t j ≡ false
+      go true f ih = let g : Some i ≡ None = sym (first-here n i f) ∙ e in absurd (let z : ◌≡◌ {A = ℕ} 0 1 = cc in omega arith)
       go false f ih = by_eqb i j (λ _. t j ≡ false) (λ g. ap t (sym g) ∙ f) (λ g. ih (sym (first-later n i f) ∙ e) j (omega arith) (omega arith))
 
 not-false-of : {b : Bool} → not b ≡ false → b ≡ true
@@ -78,13 +78,13 @@ not-false-of {b = true} e = refl
 not-false-of {b = false} e = absurd-bool refl e
 
 -- where none is at fault, each keeps the rule
-pub no-fault : (n : ℕ) (ok : ℕ → Bool) → first_fault n ok ≡ none → (j : ℕ) → j < n → ok j ≡ true
+pub no-fault : (n : ℕ) (ok : ℕ → Bool) → first_fault n ok ≡ None → (j : ℕ) → j < n → ok j ≡ true
 unfolding first_fault
 no-fault n ok e j h = not-false-of (first-none (λ i. not (ok i)) n 0 e j (omega arith) (omega arith))
 
-pub some_of : {A : Type 0} (o : Option A) → is_some o ≡ true → (q : A) × (o ≡ some q)
-some_of none e = absurd-bool e refl
-some_of (some q) e = (q, refl)
+pub some_of : {A : Type 0} (o : Option A) → is_some o ≡ true → (q : A) × (o ≡ Some q)
+some_of None e = absurd-bool e refl
+some_of (Some q) e = (q, refl)
 
 -- ---- all below n
 

@@ -1,6 +1,5 @@
 -- Tests on numbers and lists, and the first number that passes or fails one.
-use Rattle.std.specs.Prelude.{Bool, true, false, not, ◌||◌, List, [], ◌∷◌, ℕ, zero, suc, ◌+◌, ◌-◌, ◌/◌, ◌%◌, ◌^◌, leb, eqb}
-use Rattle.std.proofs.Math.Option.{Option, none, some}
+use Rattle.std.specs.Prelude.{Bool, true, false, not, ◌||◌, List, [], ◌∷◌, ℕ, zero, suc, ◌+◌, ◌-◌, ◌/◌, ◌%◌, ◌^◌, leb, eqb, Option, None, Some}
 use Rattle.general.specs.Sums.{sum_to, only}
 
 infixl 35 ◌and◌
@@ -32,8 +31,8 @@ has i (x ∷ xs) = eqb i x || has i xs
 
 -- the first of the numbers i, i + 1, .., n of them, that passes the test
 unfoldable pub first_at : ℕ → ℕ → (ℕ → Bool) → Option ℕ
-first_at zero i t = none
-first_at (suc n) i t = elim (t i) [ true ↦ some i | false ↦ first_at n (suc i) t ]
+first_at zero i t = None
+first_at (suc n) i t = elim (t i) [ true ↦ Some i | false ↦ first_at n (suc i) t ]
 
 -- the first number below n that fails the test: the first at fault
 unfoldable pub first_fault : ℕ → (ℕ → Bool) → Option ℕ
@@ -44,6 +43,3 @@ unfoldable pub all_to : ℕ → (ℕ → Bool) → Bool
 all_to zero t = true
 all_to (suc n) t = all_to n t and t n
 
-abbrev pub is_some : {A : Type 0} → Option A → Bool
-is_some none = false
-is_some (some x) = true

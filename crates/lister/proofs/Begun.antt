@@ -1,8 +1,8 @@
 -- A listing is opened: the header, and the file's refusal or the fresh board. Assumes nothing.
+use Rattle.std.specs.Prelude.{Option, None, Some}
 use Rattle.places.specs.Board.{board_length}
 use mathlib.Core.Bool.{true, false}
 use mathlib.Core.List.{List, ◌++◌}
-use mathlib.Core.Option.{Option, none, some}
 use mathlib.Core.Path.{◌≡◌, refl, sym, ap, ◌∙◌}
 use Prim.Native.Nat.{ℕ}
 use native.Mathlib.Omega.{arith}
@@ -25,15 +25,15 @@ use Rattle.lines.proofs.Texts.{text-then}
 use Rattle.lister.specs.declared.Progress.{Progress}
 use Rattle.lister.specs.Lister.{standing, opening, Opened}
 
-or-none : (v : Option Answer) → or_else v none ≡ v
+or-none : (v : Option Answer) → or_else v None ≡ v
 unfolding or_else
-or-none none = refl
-or-none (some a) = refl
+or-none None = refl
+or-none (Some a) = refl
 
 settled-answer : (v : Option Answer) (f bd : List ℕ) → (fresh_settled v f bd).answer ≡ settled v
 unfolding fresh_settled settled
-settled-answer none f bd = refl
-settled-answer (some a) f bd = refl
+settled-answer None f bd = refl
+settled-answer (Some a) f bd = refl
 
 module _ (f bd bd' : List ℕ) (size : length bd ≡ board_length) (a : Answer) (told : record { answer = a; board = bd' } ≡ fresh_of f bd) where
   fresh-is : fresh_of f bd ≡ fresh_settled (file_refusal f) f bd
@@ -50,7 +50,7 @@ module _ (f bd bd' : List ℕ) (size : length bd ≡ board_length) (a : Answer) 
     pub refused-open : (a.number ≡ 0 → ⊥) → (out' : List ℕ) (r : ℕ) → Put 50 q (refusal_line a) o' out' r → Opened f bd out bd' out' (record { months = 0; at = r; more = false })
     unfolding fresh_settled opening
     refused-open n out' r line =
-        let v : file_refusal f ≡ some a = settled-some (file_refusal f) a answer-is n in
+        let v : file_refusal f ≡ Some a = settled-some (file_refusal f) a answer-is n in
         let kept : bd' ≡ bd = ap (λ (x : Fresh). x.board) (by-file ∙ ap (λ (x : Option Answer). fresh_settled x f bd) v) in
         record {
           text = header ++ refusal_line a;
@@ -61,7 +61,7 @@ module _ (f bd bd' : List ℕ) (size : length bd ≡ board_length) (a : Answer) 
     pub accepted-open : a.number ≡ 0 → Opened f bd out bd' o' (record { months = 0; at = q; more = true })
     unfolding fresh_settled opening begin
     accepted-open n =
-        let v : file_refusal f ≡ none = no-refusal f (accepted-of f a answer-is n) in
+        let v : file_refusal f ≡ None = no-refusal f (accepted-of f a answer-is n) in
         let made : bd' ≡ fresh_board (basin_of f) = ap (λ (x : Fresh). x.board) (by-file ∙ ap (λ (x : Option Answer). fresh_settled x f bd) v) in
         record {
           text = header;
@@ -76,7 +76,7 @@ opened-on f bd out bd' out' r w more = go (file_refusal f) refl w.equation
   where
     go : (v : Option Answer) → file_refusal f ≡ v → record { text = w.text; standing = standing r bd'; more = r.more } ≡ opening v (basin_of f) bd
         → (check_of f ≡ Accepted) × (possible (basin_of f) bd' ≡ true) × (r.months ≡ 0)
-    go none e q =
+    go None e q =
         let acc : check_of f ≡ Accepted = accepted-of f (record { number = 0; place = 0 }) (ap settled (sym e)) refl in
         (acc, ap (λ (x : Step). possible (basin_of f) x.standing.board) q ∙ fresh-can (basin_of f) (accepted-facts f acc), ap (λ (x : Step). x.standing.months) q)
-    go (some a) e q = absurd-bool more (ap (λ (x : Step). x.more) q)
+    go (Some a) e q = absurd-bool more (ap (λ (x : Step). x.more) q)

@@ -1,9 +1,9 @@
 -- A step of a listing tells what the rules define. Assumes nothing.
+use Rattle.std.specs.Prelude.{Option, None, Some}
 use Rattle.general.proofs.Sums.{sum_to-same}
 use Rattle.rules.specs.declared.Verdict.TheVariants.{Lists}
 use mathlib.Core.Bool.{true, false}
 use mathlib.Core.List.{List, [], ◌∷◌, ◌++◌, map}
-use mathlib.Core.Option.{Option, none, some}
 use mathlib.Core.Path.{◌≡◌, refl, sym, ap, ◌∙◌}
 use Prim.Native.Nat.{ℕ, zero, suc, ◌<◌}
 use native.Mathlib.Omega.{arith}
@@ -55,12 +55,12 @@ module _ (b : Basin) (h : MonthRun) (old : List ℕ) where
 -- ---- which step a part makes
 
 module _ (b : Basin) (s : Standing) (part : List ℕ) where
-  short-refusal : (length part ≡ sheet_bytes b → ⊥) → part_refusal b part ≡ some (told Lists)
+  short-refusal : (length part ≡ sheet_bytes b → ⊥) → part_refusal b part ≡ Some (told Lists)
   unfolding part_refusal unless or_else
   short-refusal h = rw (eqb-other (length part) (sheet_bytes b) h)
 
   -- a part that is turned down
-  pub refused-meets : (a : Answer) → 0 < length part → part_refusal b part ≡ some a → StepMeets b s part (record { text = refusal_line a; standing = s; more = false })
+  pub refused-meets : (a : Answer) → 0 < length part → part_refusal b part ≡ Some a → StepMeets b s part (record { text = refusal_line a; standing = s; more = false })
   unfolding sheet_step
   refused-meets a some_bytes e = sym (step-some b s part some_bytes ∙ rw e)
 
@@ -68,18 +68,18 @@ module _ (b : Basin) (s : Standing) (part : List ℕ) where
   pub short-meets : 0 < length part → (length part ≡ sheet_bytes b → ⊥) → StepMeets b s part (record { text = refusal_line (told Lists); standing = s; more = false })
   short-meets some_bytes h = refused-meets (told Lists) some_bytes (short-refusal h)
 
-  pub over-meets : (a : Answer) → 0 < length part → length part ≡ sheet_bytes b → over_answer (over_limit (sheet_of (rows b) part)) ≡ some a
+  pub over-meets : (a : Answer) → 0 < length part → length part ≡ sheet_bytes b → over_answer (over_limit (sheet_of (rows b) part)) ≡ Some a
       → StepMeets b s part (record { text = refusal_line a; standing = s; more = false })
   over-meets a some_bytes h e = refused-meets a some_bytes (whole-refusal b part h ∙ e)
 
   -- a month
-  pub month-meets : (old rp' bd' : List ℕ) → 0 < rows b → length part ≡ sheet_bytes b → over_answer (over_limit (sheet_of (rows b) part)) ≡ none
+  pub month-meets : (old rp' bd' : List ℕ) → 0 < rows b → length part ≡ sheet_bytes b → over_answer (over_limit (sheet_of (rows b) part)) ≡ None
       → rp' ≡ report_of b (run_of b (sheet_of (rows b) part) s.board) old
       → bd' ≡ board_after b (sheet_of (rows b) part) s.board
       → StepMeets b s part (record { text = month_text b s.months rp' bd'; standing = record { months = suc s.months; board = bd' }; more = true })
   unfolding sheet_step
   month-meets old rp' bd' row h e er eb =
-      let e' : part_refusal b part ≡ none = whole-refusal b part h ∙ e in
+      let e' : part_refusal b part ≡ None = whole-refusal b part h ∙ e in
       let run : MonthRun = run_of b (sheet_of (rows b) part) s.board in
       let et : month_text b s.months rp' bd' ≡ month_text b s.months (report_of b run []) (board_after b (sheet_of (rows b) part) s.board) =
       ap (λ (x : List ℕ). month_text b s.months x bd') er
@@ -108,17 +108,17 @@ module _ (b : Basin) (runoff bd rp bd' rp' : List ℕ) (a : Answer) (w : SheetRa
   abbrev settled_by : Option Answer → Outcome
   settled_by v = month_settled v b runoff bd rp
 
-  pub went-refused : (a.number ≡ 0 → ⊥) → (over_answer (over_limit runoff) ≡ some a) × (bd' ≡ bd)
+  pub went-refused : (a.number ≡ 0 → ⊥) → (over_answer (over_limit runoff) ≡ Some a) × (bd' ≡ bd)
   unfolding month_settled
   went-refused n = go (over_answer (over_limit runoff)) w
     where
-      go : (v : Option Answer) → record { answer = a; board = bd'; report = rp' } ≡ settled_by v → (v ≡ some a) × (bd' ≡ bd)
-      go none e = absurd (n (ap (λ (x : Outcome). x.answer.number) e))
-      go (some x) e = (ap (λ (y : Outcome). some y.answer) (sym e), ap (λ (y : Outcome). y.board) e)
+      go : (v : Option Answer) → record { answer = a; board = bd'; report = rp' } ≡ settled_by v → (v ≡ Some a) × (bd' ≡ bd)
+      go None e = absurd (n (ap (λ (x : Outcome). x.answer.number) e))
+      go (Some x) e = (ap (λ (y : Outcome). Some y.answer) (sym e), ap (λ (y : Outcome). y.board) e)
 
   -- v is what is said of the runoff
   pub record RanBy (v : Option Answer) : Type 0 where
-    pub none_over : v ≡ none
+    pub none_over : v ≡ None
     pub board : bd' ≡ board_after b runoff bd
     pub report : rp' ≡ report_of b (run_of b runoff bd) rp
 
@@ -130,5 +130,5 @@ module _ (b : Basin) (runoff bd rp bd' rp' : List ℕ) (a : Answer) (w : SheetRa
   went_on n = go (over_limit runoff) w
     where
       go : (v : Option ℕ) → record { answer = a; board = bd'; report = rp' } ≡ settled_by (over_answer v) → RanBy (over_answer v)
-      go none e = record { none_over = refl; board = ap (λ (y : Outcome). y.board) e; report = ap (λ (y : Outcome). y.report) e }
-      go (some i) e = absurd (let z : a.number ≡ 8 = ap (λ (x : Outcome). x.answer.number) e in omega (arith, z, n))
+      go None e = record { none_over = refl; board = ap (λ (y : Outcome). y.board) e; report = ap (λ (y : Outcome). y.report) e }
+      go (Some i) e = absurd (let z : a.number ≡ 8 = ap (λ (x : Outcome). x.answer.number) e in omega (arith, z, n))

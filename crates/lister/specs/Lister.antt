@@ -1,6 +1,5 @@
 -- What the steps of a listing ask for and promise.
-use Rattle.std.specs.Prelude.{Bool, true, false, List, ◌++◌, ◌≡◌, ℕ, ◌+◌, ◌≤◌, ◌<◌, length, take, drop}
-use Rattle.std.proofs.Math.Option.{Option, none, some}
+use Rattle.std.specs.Prelude.{Bool, true, false, List, ◌++◌, ◌≡◌, ℕ, ◌+◌, ◌≤◌, ◌<◌, length, take, drop, Option, None, Some}
 use Rattle.rules.specs.Basin.{Basin}
 use Rattle.rules.specs.Answers.{Answer}
 use Rattle.rules.specs.Tally.{report_length}
@@ -25,8 +24,8 @@ standing p board = record { months = p.months; board = board }
 
 -- The header, and the fresh board; of a file that is turned down the refusal, and the board as it was.
 unfoldable pub opening : Option Answer → Basin → List ℕ → Step
-opening none b board = record { text = header; standing = begin b; more = true }
-opening (some a) b board = record { text = header ++ refusal_line a; standing = record { months = 0; board = board }; more = false }
+opening None b board = record { text = header; standing = begin b; more = true }
+opening (Some a) b board = record { text = header ++ refusal_line a; standing = record { months = 0; board = board }; more = false }
 
 -- the text stands at the start of the list
 pub record Opened (f board out board' out' : List ℕ) (r : Progress) : Type 0 where

@@ -1,6 +1,5 @@
 -- The listing of two files (01, "One October, whole"): the bytes of a basin file and of a file of runoff sheets.
-use Rattle.std.specs.Prelude.{Bool, true, false, List, [], ◌∷◌, ◌++◌, ℕ, zero, suc, eqb, length, take, drop}
-use Rattle.std.proofs.Math.Option.{Option, none, some}
+use Rattle.std.specs.Prelude.{Bool, true, false, List, [], ◌∷◌, ◌++◌, ℕ, zero, suc, eqb, length, take, drop, Option, None, Some}
 use Rattle.rules.specs.Basin.{Basin, rows}
 use Rattle.rules.specs.declared.Verdict.TheVariants.{Lists}
 use Rattle.rules.specs.Answers.{Answer, or_else, unless}
@@ -39,8 +38,8 @@ pub record Step : Type 0 where
 -- A sheet that is turned down ends the run with its refusal. Any other is a month: its lines are added, and the run stands one month on,
 -- with the board that the month leaves.
 unfoldable pub sheet_step : Option Answer → Basin → Standing → List ℕ → Step
-sheet_step (some a) b s runoff = record { text = refusal_line a; standing = s; more = false }
-sheet_step none b s runoff =
+sheet_step (Some a) b s runoff = record { text = refusal_line a; standing = s; more = false }
+sheet_step None b s runoff =
     let after : List ℕ = board_after b runoff s.board in
     record {
       text = month_text b s.months (report_of b (run_of b runoff s.board) []) after;
@@ -78,8 +77,8 @@ months_text b months = steps_text (suc (length months)) b (begin b) months
 
 -- A basin that is turned down ends the listing with its refusal.
 unfoldable pub after_header : Option Answer → Basin → List ℕ → List ℕ
-after_header (some a) b months = refusal_line a
-after_header none b months = months_text b months
+after_header (Some a) b months = refusal_line a
+after_header None b months = months_text b months
 
 -- The listing: the header, then the basin's refusal or its months.
 unfoldable pub listing_of : List ℕ → List ℕ → List ℕ

@@ -1,7 +1,6 @@
 -- The steps of a program that lists: what each promises, and that their texts, one after another, are the listing, however the months file is
 -- cut into blocks when it is read. proofs/Steps and proofs/Blocks prove it.
-use Rattle.std.specs.Prelude.{Bool, true, false, List, [], ◌∷◌, ◌++◌, ◌≡◌, ℕ, ◌≤◌, length, take, drop}
-use Rattle.std.proofs.Math.Option.{some}
+use Rattle.std.specs.Prelude.{Bool, true, false, List, [], ◌∷◌, ◌++◌, ◌≡◌, ℕ, ◌≤◌, length, take, drop, Some}
 use Rattle.rules.specs.Basin.{Basin}
 use Rattle.rules.specs.Answers.{Answer}
 use Rattle.rules.specs.declared.Verdict.TheVariants.{Accepted}
@@ -91,4 +90,4 @@ CallsList = (f months : List ℕ) → check_of f ≡ Accepted → (cs : List (Ca
 
 -- Of a file that is turned down: the header and the refusal are.
 abbrev pub RefusalLists : Type 0
-RefusalLists = (f months : List ℕ) (a : Answer) → file_refusal f ≡ some a → header ++ refusal_line a ≡ listing_of f months
+RefusalLists = (f months : List ℕ) (a : Answer) → file_refusal f ≡ Some a → header ++ refusal_line a ≡ listing_of f months

@@ -1,8 +1,8 @@
 -- Month after month of an accepted file: what one leaves is what the next asks for. Assumes nothing.
+use Rattle.std.specs.Prelude.{Option, None, Some}
 use mathlib.Core.Path.{◌≡◌, sym, ap, ◌∙◌}
 use mathlib.Core.Bool.{true}
 use mathlib.Core.List.{List}
-use mathlib.Core.Option.{Option, none, some}
 use Prim.Native.Nat.{ℕ, ◌*◌, ◌≤◌, ◌<◌}
 use native.Mathlib.Nat.{mul-le-mul}
 use native.Mathlib.Omega.{arith}
@@ -37,13 +37,13 @@ module _ (st rs ps ri runoff bd rp : List ℕ) (c : CanRunSheet st rs ps ri runo
   stays a e n = sym (rw (settled-some (over_answer (over_limit runoff)) a e n))
 
   module _ (a : Answer) (e : a ≡ settled (over_answer (over_limit runoff))) (n : a.number ≡ 0) where
-    none_over : over_limit runoff ≡ none
+    none_over : over_limit runoff ≡ None
     none_over = clear-over (over_limit runoff) (ap (λ (x : Answer). x.number) (sym e) ∙ n)
 
     pub may-run : CanRun st rs ps ri runoff bd rp
     may-run = record { accepted = c.accepted; sheet = c.sheet; small = within-limit runoff none_over; size = c.size; can = c.can; room = c.room }
 
-    clear : over_answer (over_limit runoff) ≡ none
+    clear : over_answer (over_limit runoff) ≡ None
     unfolding over_answer
     clear = rw none_over
 
@@ -56,8 +56,8 @@ module _ (st rs ps ri runoff bd rp : List ℕ) (c : CanRunSheet st rs ps ri runo
 
 board-kept : (b : Basin) → Accepted b → (runoff bd rp : List ℕ) → possible b bd ≡ true → (v : Option Answer) → possible b (month_settled v b runoff bd rp).board ≡ true
 unfolding month_settled
-board-kept b acc runoff bd rp can none = after-possible b acc bd can runoff
-board-kept b acc runoff bd rp can (some a) = can
+board-kept b acc runoff bd rp can None = after-possible b acc bd can runoff
+board-kept b acc runoff bd rp can (Some a) = can
 
 -- refused or not, the board is possible
 pub still-possible : (b : Basin) → Accepted b → (runoff bd rp : List ℕ) → possible b bd ≡ true → (o : Outcome) → SheetRan b runoff bd rp o → possible b o.board ≡ true
@@ -87,8 +87,8 @@ run-losses b acc runoff bd v h = losses-most b acc _ _ v h
 told-losses : (b : Basin) → Accepted b → (runoff bd rp : List ℕ) (o : Option ℕ) → (month_settled (over_answer o) b runoff bd rp).answer.number ≡ 0
     → (v : ℕ) → v < length b.reservoirs → get_or (month_settled (over_answer o) b runoff bd rp).report (evaporation_place (length b.rights) (rows b) v) 0 ≤ 2_000_000_000
 unfolding month_settled over_answer
-told-losses b acc runoff bd rp none e v h = omega (arith, evaporation-place b (run_of b runoff bd) rp v h, run-losses b acc runoff bd v h)
-told-losses b acc runoff bd rp (some i) e v h = absurd (omega (arith, e))
+told-losses b acc runoff bd rp None e v h = omega (arith, evaporation-place b (run_of b runoff bd) rp v h, run-losses b acc runoff bd v h)
+told-losses b acc runoff bd rp (Some i) e v h = absurd (omega (arith, e))
 
 pub losses_told : (b : Basin) → Accepted b → (runoff bd rp : List ℕ) (o : Outcome) → SheetRan b runoff bd rp o → o.answer.number ≡ 0 → (v : ℕ) → v < length b.reservoirs → get_or o.report (evaporation_place (length b.rights) (rows b) v) 0 ≤ 2_000_000_000
 losses_told b acc runoff bd rp o w e v h =

@@ -1,8 +1,8 @@
 -- Each answer of month, case by case. Assumes nothing.
+use Rattle.std.specs.Prelude.{Option, None, Some}
 use mathlib.Core.Path.{◌≡◌, refl, sym, ap, ◌∙◌, subst}
 use mathlib.Core.Bool.{Bool, true}
 use mathlib.Core.List.{List}
-use mathlib.Core.Option.{Option, none, some}
 use Prim.Native.Nat.{ℕ, ◌+◌, ◌-◌, ◌≤◌, ◌<◌}
 use native.Mathlib.Decide.{dec_lt}
 use native.Mathlib.Omega.{arith}
@@ -75,21 +75,21 @@ module _ (runoff : List ℕ) where
   over_done n i h = rw (search-over (over runoff) n i h)
 
   -- where none is over, each is within
-  none_over : over_limit runoff ≡ none → (j : ℕ) → j < length runoff → get_or runoff j 0 ≤ most_runoff
+  none_over : over_limit runoff ≡ None → (j : ℕ) → j < length runoff → get_or runoff j 0 ≤ most_runoff
   unfolding over_limit
   none_over e j h = not-lt-of {m = most_runoff} {n = get_or runoff j 0} (first-none (over runoff) (length runoff) 0 e j (omega arith) (omega (arith, h)))
 
-  pub within-limit : over_limit runoff ≡ none → (j : ℕ) → get_or runoff j 0 ≤ most_runoff
+  pub within-limit : over_limit runoff ≡ None → (j : ℕ) → get_or runoff j 0 ≤ most_runoff
   within-limit e j = pick (dec_lt j (length runoff))
     where
       pick : Dec (j < length runoff) → get_or runoff j 0 ≤ most_runoff
       pick (yes h) = none_over e j h
       pick (no h) = omega (arith, get_or-eq_default runoff 0 {n = j} (omega (arith, h)))
 
-pub clear-over : (o : Option ℕ) → (settled (over_answer o)).number ≡ 0 → o ≡ none
+pub clear-over : (o : Option ℕ) → (settled (over_answer o)).number ≡ 0 → o ≡ None
 unfolding settled over_answer
-clear-over none e = refl
-clear-over (some i) e = absurd (omega arith)
+clear-over None e = refl
+clear-over (Some i) e = absurd (omega arith)
 
 -- ---- the contract
 
@@ -105,7 +105,7 @@ module _ (f runoff board report : List ℕ) where
   unfolding month_refusal
   month-numbered = or-numbered lent (over_answer (over_limit runoff)) (lent-numbered f fits board) (over-numbered (over_limit runoff))
 
-  refused-first : (a : Answer) → a ≡ settled lent → (a.number ≡ 0 → ⊥) → month_refusal f runoff board report ≡ some a
+  refused-first : (a : Answer) → a ≡ settled lent → (a.number ≡ 0 → ⊥) → month_refusal f runoff board report ≡ Some a
   unfolding month_refusal
   refused-first a e n = or_some lent (over_answer (over_limit runoff)) a (settled-some lent a e n)
 

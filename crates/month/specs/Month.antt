@@ -1,6 +1,5 @@
 -- The call month, for every file and all lists, refusals included (01, "The board and one month").
-use Rattle.std.specs.Prelude.{◌≡◌, Bool, List, ℕ, suc, ◌+◌, ltb, length}
-use Rattle.std.proofs.Math.Option.{Option, none, some}
+use Rattle.std.specs.Prelude.{◌≡◌, Bool, List, ℕ, suc, ◌+◌, ltb, length, Option, None, Some}
 use Rattle.general.specs.Sums.{only}
 use Rattle.general.specs.Tables.{tab}
 use Rattle.general.specs.Tests.{◌and◌}
@@ -48,12 +47,12 @@ pub record Outcome : Type 0 where
   pub report : List ℕ
 
 unfoldable pub month_settled : Option Answer → Basin → List ℕ → List ℕ → List ℕ → Outcome
-month_settled none b runoff board report = record {
+month_settled None b runoff board report = record {
   answer = record { number = 0; place = short_count (run_of b runoff board).turns };
   board = board_after b runoff board;
   report = report_of b (run_of b runoff board) report;
 }
-month_settled (some a) b runoff board report = record { answer = a; board = board; report = report }
+month_settled (Some a) b runoff board report = record { answer = a; board = board; report = report }
 
 unfoldable pub month_of : List ℕ → List ℕ → List ℕ → List ℕ → Outcome
 month_of f runoff board report = month_settled (month_refusal f runoff board report) (basin_of f) runoff board report

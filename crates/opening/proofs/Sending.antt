@@ -1,6 +1,6 @@
 -- One row sends on what has come down to it. Assumes nothing.
+use Rattle.std.specs.Prelude.{None, Some}
 use mathlib.Core.Bool.{Bool, true, false, cond}
-use mathlib.Core.Option.{none, some}
 use mathlib.Core.List.{List}
 use mathlib.Core.Path.{◌≡◌, refl, sym, ap, ◌∙◌}
 use Prim.Native.Nat.{ℕ, ◌+◌, ◌≤◌, ◌<◌}
@@ -21,7 +21,7 @@ row_next : (t : List ℕ) (r q : ℕ) → below_of (step_of t r) ≡ Row q → g
 unfolding step_of
 row_next t r q b = go (ltb (get_or t r 0) 64) (to_row (step_of t r) q b)
   where
-    go : (s : Bool) → cond s (some (get_or t r 0)) none ≡ some q → get_or t r 0 ≡ q
+    go : (s : Bool) → cond s (Some (get_or t r 0)) None ≡ Some q → get_or t r 0 ≡ q
     go true e = cc
     go false e = absurd (let z : ◌≡◌ {A = ℕ} 0 1 = cc in omega arith)
 
@@ -29,7 +29,7 @@ row_last : (t : List ℕ) (r : ℕ) → below_of (step_of t r) ≡ Nothing → 6
 unfolding step_of
 row_last t r b = go (ltb (get_or t r 0) 64) refl (to_none (step_of t r) b)
   where
-    go : (s : Bool) → ltb (get_or t r 0) 64 ≡ s → cond s (some (get_or t r 0)) none ≡ none → 64 ≤ get_or t r 0
+    go : (s : Bool) → ltb (get_or t r 0) 64 ≡ s → cond s (Some (get_or t r 0)) None ≡ None → 64 ≤ get_or t r 0
     go true f e = absurd (let z : ◌≡◌ {A = ℕ} 0 1 = cc in omega arith)
     go false f e = not-lt-of f
 

@@ -1,15 +1,15 @@
 -- Laws of the row below, at a body of stations. Assumes nothing.
+use Rattle.std.specs.Prelude.{Option, None, Some, is_some}
 use mathlib.Core.Path.{◌≡◌, refl, sym, ap, ◌∙◌}
 use mathlib.Core.Bool.{Bool, true, false, ◌||◌}
 use mathlib.Core.List.{List}
-use mathlib.Core.Option.{Option, none, some}
 use Prim.Native.Nat.{ℕ, suc, ◌+◌, ◌-◌, ◌≤◌, ◌<◌}
 use native.Mathlib.Numerals.{add-one}
 use native.Mathlib.Omega.{arith}
 use borrow.Author.Tests.{eq-eqb, ne_eqb}
 use lib.Dec.{eqb}
 use lib.ListN.{length}
-use Rattle.general.specs.Tests.{first_at, is_some}
+use Rattle.general.specs.Tests.{first_at}
 use Rattle.general.proofs.Loops.{search-here, search-on, search-over}
 use Rattle.rules.specs.Basin.{Station, no_station, station_at}
 use Rattle.rules.specs.Path.{carries_on, row_below}
@@ -61,13 +61,13 @@ below_none s o j h = ap below_of (search-over _ (rows_of s) j h)
 
 -- ---- what the answer says
 
-pub to_row : (o : Option ℕ) (q : ℕ) → below_of o ≡ Row q → o ≡ some q
-to_row none q e = let z : ◌≡◌ {A = ℕ} 0 1 = cc in absurd (omega arith)
-to_row (some x) q e = let z : x ≡ q = cc in ap some z
+pub to_row : (o : Option ℕ) (q : ℕ) → below_of o ≡ Row q → o ≡ Some q
+to_row None q e = let z : ◌≡◌ {A = ℕ} 0 1 = cc in absurd (omega arith)
+to_row (Some x) q e = let z : x ≡ q = cc in ap Some z
 
-pub to_none : (o : Option ℕ) → below_of o ≡ Nothing → o ≡ none
-to_none none e = refl
-to_none (some x) e = let z : ◌≡◌ {A = ℕ} 0 1 = cc in absurd (omega arith)
+pub to_none : (o : Option ℕ) → below_of o ≡ Nothing → o ≡ None
+to_none None e = refl
+to_none (Some x) e = let z : ◌≡◌ {A = ℕ} 0 1 = cc in absurd (omega arith)
 
 module _ (s : List ℕ) (i : ℕ) (b : Below) (e : b ≡ below_of (row_below (stations_of s) i)) where
   pub some_below : (q : ℕ) → b ≡ Row q → is_some (row_below (stations_of s) i) ≡ true

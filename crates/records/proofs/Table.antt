@@ -1,7 +1,7 @@
 -- Laws of the table of rows below, and of the paths that it gives. Assumes nothing.
+use Rattle.std.specs.Prelude.{Option, None, Some}
 use mathlib.Core.Bool.{Bool, true, false, cond}
 use mathlib.Core.List.{List, [], ◌∷◌, ◌++◌}
-use mathlib.Core.Option.{Option, none, some}
 use mathlib.Core.Path.{◌≡◌, refl, sym, ap, ◌∙◌, subst}
 use Prim.Native.Nat.{ℕ, ◌+◌, ◌-◌, ◌≤◌, ◌<◌}
 use native.Mathlib.Omega.{arith}
@@ -26,11 +26,11 @@ use Rattle.records.proofs.Rows.{to_row, to_none, rows_are}
 
 -- ---- one step by the table
 
-step_is : (t : List ℕ) (r : ℕ) → get_or t r 0 < 64 → step_of t r ≡ some (get_or t r 0)
+step_is : (t : List ℕ) (r : ℕ) → get_or t r 0 < 64 → step_of t r ≡ Some (get_or t r 0)
 unfolding step_of
 step_is t r h = rw (ltb_yes (get_or t r 0) 64 h)
 
-step-none : (t : List ℕ) (r : ℕ) → 64 ≤ get_or t r 0 → step_of t r ≡ none
+step-none : (t : List ℕ) (r : ℕ) → 64 ≤ get_or t r 0 → step_of t r ≡ None
 unfolding step_of
 step-none t r h = rw (ltb_no (get_or t r 0) 64 h)
 
@@ -45,7 +45,7 @@ module _ (t : List ℕ) (d : Downhill t) where
   unfolding step_of
   downhill-later r q h e = go (ltb (get_or t r 0) 64) refl e
     where
-      go : (b : Bool) → ltb (get_or t r 0) 64 ≡ b → cond b (some (get_or t r 0)) none ≡ some q → (r < q) × (q < 64)
+      go : (b : Bool) → ltb (get_or t r 0) 64 ≡ b → cond b (Some (get_or t r 0)) None ≡ Some q → (r < q) × (q < 64)
       go true f g = let x : get_or t r 0 < 64 = lt_of f in let z : get_or t r 0 ≡ q = cc in let y = d.later r h x in (omega arith, omega arith)
       go false f g = let z : ◌≡◌ {A = ℕ} 0 1 = cc in absurd (omega arith)
 
@@ -53,7 +53,7 @@ module _ (t : List ℕ) (d : Downhill t) where
   pub by_row : (i q : ℕ) → i < 64 → below_of (step_of t i) ≡ Row q → (path_by t i ≡ i ∷ path_by t q) × (i < q) × (q < 64)
   unfolding path_by
   by_row i q h b =
-      let e : step_of t i ≡ some q = to_row (step_of t i) q b in
+      let e : step_of t i ≡ Some q = to_row (step_of t i) q b in
       let w = downhill-later i q h e in
       (route-row (step_of t) 64 downhill-later i q h e, w.0, w.1)
 
@@ -109,7 +109,7 @@ module _ (st : List Station) where
   -- what the lookup writes into it
   pub code_row : (r q : ℕ) → below_of (row_below st r) ≡ Row q → (q < length st) × (q ≡ below_code (row_below st r))
   unfolding below_code
-  code_row r q b = let e : row_below st r ≡ some q = to_row (row_below st r) q b in ((below-later st r q e).1, rw e)
+  code_row r q b = let e : row_below st r ≡ Some q = to_row (row_below st r) q b in ((below-later st r q e).1, rw e)
 
   pub code-none : (r : ℕ) → below_of (row_below st r) ≡ Nothing → 255 ≡ below_code (row_below st r)
   unfolding below_code
@@ -120,17 +120,17 @@ module _ (st : List Station) where
     unfolding step_of below_code
     table_step r h = rw (table_at r h) (go (row_below st r) (below-later st r))
       where
-        go : (o : Option ℕ) → ((q : ℕ) → o ≡ some q → (r < q) × (q < length st)) → cond (ltb (below_code o) 64) (some (below_code o)) none ≡ o
-        go none l = refl
-        go (some q) l = let w = l q refl in rw (ltb_yes q 64 (omega arith))
+        go : (o : Option ℕ) → ((q : ℕ) → o ≡ Some q → (r < q) × (q < length st)) → cond (ltb (below_code o) 64) (Some (below_code o)) None ≡ o
+        go None l = refl
+        go (Some q) l = let w = l q refl in rw (ltb_yes q 64 (omega arith))
 
     pub table-downhill : Downhill (table_of st)
     unfolding below_code
     table-downhill = record { later = λ r h l. go r h l (dec_lt r (length st)) }
       where
         down : (r : ℕ) → r < length st → get_or (table_of st) r 0 < 64 → (o : Option ℕ) → row_below st r ≡ o → r < get_or (table_of st) r 0
-        down r h l none e = absurd (omega (arith, ap below_code e, table_at r h))
-        down r h l (some q) e = omega (arith, ap below_code e, table_at r h, below-later st r q e)
+        down r h l None e = absurd (omega (arith, ap below_code e, table_at r h))
+        down r h l (Some q) e = omega (arith, ap below_code e, table_at r h, below-later st r q e)
 
         go : (r : ℕ) → r < 64 → get_or (table_of st) r 0 < 64 → Dec (r < length st) → r < get_or (table_of st) r 0
         go r h l (yes k) = down r k l (row_below st r) refl

@@ -1,6 +1,5 @@
 -- Tables that a month works with: the rows below, 64 bytes that walks along a path look up, and the patterns, as the split of a return reads them.
-use Rattle.std.specs.Prelude.{cond, List, ◌++◌, ◌≡◌, ℕ, suc, ◌-◌, ◌≤◌, ◌<◌, ltb, length, get_or, replicate}
-use Rattle.std.proofs.Math.Option.{Option, none, some}
+use Rattle.std.specs.Prelude.{cond, List, ◌++◌, ◌≡◌, ℕ, suc, ◌-◌, ◌≤◌, ◌<◌, ltb, length, get_or, replicate, Option, None, Some}
 use Rattle.general.specs.Routes.{follow}
 use Rattle.general.specs.Sums.{up_to}
 use Rattle.general.specs.Tables.{tab}
@@ -10,8 +9,8 @@ use Rattle.records.specs.Records.{rows_of, stations_of, reservoir_count, reservo
 
 -- a row below by its number, none by 255
 unfoldable pub below_code : Option ℕ → ℕ
-below_code none = 255
-below_code (some q) = q
+below_code None = 255
+below_code (Some q) = q
 
 -- the table of a list of stations; places without a row hold 255 too
 unfoldable pub table_of : List Station → List ℕ
@@ -19,7 +18,7 @@ table_of st = tab (length st) (λ r. below_code (row_below st r)) ++ replicate (
 
 -- the row below, as the table t has it: a number that is no place of the table stands for none
 unfoldable pub step_of : List ℕ → ℕ → Option ℕ
-step_of t r = cond (ltb (get_or t r 0) 64) (some (get_or t r 0)) none
+step_of t r = cond (ltb (get_or t r 0) 64) (Some (get_or t r 0)) None
 
 -- the path of a row, by the table
 unfoldable pub path_by : List ℕ → ℕ → List ℕ

@@ -1,7 +1,7 @@
 -- A board of which stock gives number 0 can be listed from. Assumes nothing.
+use Rattle.std.specs.Prelude.{Option, None, Some}
 use mathlib.Core.List.{List}
 use mathlib.Core.Bool.{true}
-use mathlib.Core.Option.{Option, none, some}
 use mathlib.Core.Path.{◌≡◌, refl, ap, ◌∙◌}
 use Prim.Native.Nat.{ℕ, ◌≤◌, ◌<◌}
 use native.Mathlib.Omega.{arith}
@@ -22,8 +22,8 @@ answer s = record { number = s.number; place = s.place }
 -- the answer with the sums is the answer on file and board
 settled-answer : (v : Option Answer) (f bd : List ℕ) → answer (stock_settled v f bd) ≡ settled v
 unfolding stock_settled settled
-settled-answer none f bd = refl
-settled-answer (some a) f bd = refl
+settled-answer None f bd = refl
+settled-answer (Some a) f bd = refl
 
 module _ (f bd : List ℕ) (s : Sums) (told : stock_told s ≡ stock_of f bd) (good : s.number ≡ 0) where
   judged : Clear f bd

@@ -1,7 +1,7 @@
 -- Digits read one after another. Assumes nothing.
+use Rattle.std.specs.Prelude.{None, Some}
 use mathlib.Core.Bool.{Bool, true, false}
 use mathlib.Core.List.{List, [], ◌∷◌}
-use mathlib.Core.Option.{none, some}
 use mathlib.Core.Path.{◌≡◌, refl, sym, ap, ◌∙◌}
 use Prim.Native.Nat.{ℕ, ◌+◌, ◌-◌, ◌*◌, ◌≤◌, ◌<◌}
 use native.Mathlib.Numerals.{add-one}
@@ -18,7 +18,7 @@ read-digit : (n c : ℕ) (cs : List ℕ) → between 48 c 57 ≡ true → read_o
 unfolding read_on
 read-digit n c cs e = rw (e, read_on)
 
-read-other : (n c : ℕ) (cs : List ℕ) → between 48 c 57 ≡ false → read_on n (c ∷ cs) ≡ none
+read-other : (n c : ℕ) (cs : List ℕ) → between 48 c 57 ≡ false → read_on n (c ∷ cs) ≡ None
 unfolding read_on
 read-other n c cs e = rw (e, read_on)
 
@@ -36,11 +36,11 @@ is-above c h = rw (leb_yes 48 c (omega arith), leb_no c 57 h)
 
 -- ---- a number that is too large stays so
 
-none_in : year_in none ≡ 0
+none_in : year_in None ≡ 0
 unfolding year_in
 none_in = refl
 
-large-in : (n : ℕ) → most_year < n → year_in (some n) ≡ 0
+large-in : (n : ℕ) → most_year < n → year_in (Some n) ≡ 0
 unfolding year_in
 large-in n h = rw (leb_no n most_year h)
 

@@ -1,20 +1,19 @@
 -- The year that a word of the command line names.
-use Rattle.std.specs.Prelude.{true, false, cond, List, [], ◌∷◌, ℕ, ◌+◌, ◌-◌, ◌*◌, leb}
-use Rattle.std.proofs.Math.Option.{Option, none, some}
+use Rattle.std.specs.Prelude.{true, false, cond, List, [], ◌∷◌, ℕ, ◌+◌, ◌-◌, ◌*◌, leb, Option, None, Some}
 use Rattle.general.specs.Tests.{between}
 
 -- Decimal digits read on from the number n, the first of them weighing most; none where a byte is no digit.
 unfoldable pub read_on : ℕ → List ℕ → Option ℕ
-read_on n [] = some n
-read_on n (c ∷ cs) = elim (between 48 c 57) [ true ↦ read_on (10 * n + (c - 48)) cs | false ↦ none ]
+read_on n [] = Some n
+read_on n (c ∷ cs) = elim (between 48 c 57) [ true ↦ read_on (10 * n + (c - 48)) cs | false ↦ None ]
 
 -- the largest number of 32 bits, as which a year is looked up
 abbrev pub most_year : ℕ
 most_year = 4294967295
 
 unfoldable pub year_in : Option ℕ → ℕ
-year_in none = 0
-year_in (some n) = cond (leb n most_year) n 0
+year_in None = 0
+year_in (Some n) = cond (leb n most_year) n 0
 
 -- The number that the digits make. An empty word, one with another byte and one that is too large name no year, and 0 stands for that: no book lists it.
 unfoldable pub year_named : List ℕ → ℕ

@@ -1,39 +1,39 @@
 -- Refusals, taken apart. Assumes nothing.
+use Rattle.std.specs.Prelude.{Option, None, Some}
 use mathlib.Core.Path.{◌≡◌, refl}
 use mathlib.Core.Bool.{Bool, true, false}
-use mathlib.Core.Option.{Option, none, some}
 use Prim.Native.Nat.{ℕ}
 use native.Mathlib.Omega.{arith}
 use Rattle.rules.specs.declared.Verdict.{Verdict}
 use Rattle.rules.specs.Answers.{Answer, or_else, unless}
 
 -- where nothing is turned down, neither the first nor what comes after is
-pub or-first : (x y : Option Answer) → or_else x y ≡ none → x ≡ none
+pub or-first : (x y : Option Answer) → or_else x y ≡ None → x ≡ None
 unfolding or_else
-or-first none y e = refl
-or-first (some a) y e = e
+or-first None y e = refl
+or-first (Some a) y e = e
 
-pub or-second : (x y : Option Answer) → or_else x y ≡ none → y ≡ none
+pub or-second : (x y : Option Answer) → or_else x y ≡ None → y ≡ None
 unfolding or_else
-or-second none y e = e
-or-second (some a) y e = absurd (let z : ◌≡◌ {A = ℕ} 0 1 = cc in omega arith)
+or-second None y e = e
+or-second (Some a) y e = absurd (let z : ◌≡◌ {A = ℕ} 0 1 = cc in omega arith)
 
-pub or-none : (y : Option Answer) → or_else none y ≡ y
+pub or-none : (y : Option Answer) → or_else None y ≡ y
 unfolding or_else
 or-none y = refl
 
 -- what is refused first stays refused, whatever comes after
-pub or_some : (x later : Option Answer) (a : Answer) → x ≡ some a → or_else x later ≡ some a
+pub or_some : (x later : Option Answer) (a : Answer) → x ≡ Some a → or_else x later ≡ Some a
 unfolding or_else
 or_some x later a e = rw e
 
 -- what comes after is asked only where nothing was refused before
-pub or_same : (v x y : Option Answer) → (v ≡ none → x ≡ y) → or_else v x ≡ or_else v y
+pub or_same : (v x y : Option Answer) → (v ≡ None → x ≡ y) → or_else v x ≡ or_else v y
 unfolding or_else
-or_same none x y h = h refl
-or_same (some a) x y h = refl
+or_same None x y h = h refl
+or_same (Some a) x y h = refl
 
-pub unless-none : (t : Bool) (v : Verdict) → unless t v ≡ none → t ≡ true
+pub unless-none : (t : Bool) (v : Verdict) → unless t v ≡ None → t ≡ true
 unfolding unless
 unless-none true v e = refl
 unless-none false v e = absurd (let z : ◌≡◌ {A = ℕ} 0 1 = cc in omega arith)

@@ -1,7 +1,7 @@
 -- 01's October meets what the theorems ask of a basin. Assumes nothing.
+use Rattle.std.specs.Prelude.{Some}
 use mathlib.Core.Path.{◌≡◌, refl}
 use mathlib.Core.Logic.{inl, inr}
-use mathlib.Core.Option.{some}
 use Prim.Native.Nat.{ℕ, zero, suc, ◌≤◌, ◌<◌}
 use native.Mathlib.Omega.{arith}
 use native.Mathlib.Decide.{dec_lt}
@@ -14,7 +14,7 @@ use Rattle.rules.specs.Path.{carries_on, row_below, path}
 use Rattle.rules.specs.Accepted.{GoodReservoir, GoodRight, Accepted}
 use Rattle.rules.specs.October.{plain_right, storage_right, returning_right, october_stations, october_reservoir, october}
 
-below : (r : ℕ) → suc r < 3 → (q : ℕ) × (row_below october_stations r ≡ some q)
+below : (r : ℕ) → suc r < 3 → (q : ℕ) × (row_below october_stations r ≡ Some q)
 unfolding row_below first_at carries_on
 below zero h = (1, refl)
 below (suc zero) h = (2, refl)

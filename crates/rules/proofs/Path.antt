@@ -1,9 +1,9 @@
 -- Laws of the row below and of paths. Assumes nothing.
+use Rattle.std.specs.Prelude.{None, Some}
 use mathlib.Core.Path.{◌≡◌, refl, sym, ap, ◌∙◌}
 use mathlib.Core.Logic.{◌≢◌}
 use mathlib.Core.Bool.{true, false}
 use mathlib.Core.List.{List, [], ◌∷◌, ◌++◌}
-use mathlib.Core.Option.{none, some}
 use Prim.Native.Nat.{ℕ, suc, ◌-◌, ◌<◌}
 use native.Mathlib.Omega.{arith}
 use lib.ListN.{length}
@@ -34,27 +34,27 @@ until-on w r p h = rw (eqb-other r w h, until_row)
 
 module _ (st : List Station) where
   -- the row below is a later row
-  pub below-later : (r q : ℕ) → row_below st r ≡ some q → (r < q) × (q < length st)
+  pub below-later : (r q : ℕ) → row_below st r ≡ Some q → (r < q) × (q < length st)
   unfolding row_below
   below-later r q e = omega (arith, first-within _ (length st - suc r) (suc r) q e)
 
-  later : (r q : ℕ) → r < length st → row_below st r ≡ some q → (r < q) × (q < length st)
+  later : (r q : ℕ) → r < length st → row_below st r ≡ Some q → (r < q) × (q < length st)
   later r q h e = below-later r q e
 
   -- one step down the river
-  pub path-row : (i q : ℕ) → i < length st → row_below st i ≡ some q → path st i ≡ i ∷ path st q
+  pub path-row : (i q : ℕ) → i < length st → row_below st i ≡ Some q → path st i ≡ i ∷ path st q
   unfolding path
   path-row i q h e = route-row (row_below st) (length st) later i q h e
 
   -- where there is no row below, the row alone
-  pub path-end : (i : ℕ) → i < length st → row_below st i ≡ none → path st i ≡ i ∷ []
+  pub path-end : (i : ℕ) → i < length st → row_below st i ≡ None → path st i ≡ i ∷ []
   unfolding path
   path-end i h e = route-end (row_below st) (length st) later i h e
 
   -- by steps down the river: a property of a row and its path holds if it holds at the end of a path and passes from the row below
   module _ (P : ℕ → List ℕ → Type 0)
-      (at-end : (r : ℕ) → r < length st → row_below st r ≡ none → P r (r ∷ []))
-      (at_row : (r q : ℕ) → r < length st → row_below st r ≡ some q → r < q → q < length st → P q (path st q) → P r (r ∷ path st q)) where
+      (at-end : (r : ℕ) → r < length st → row_below st r ≡ None → P r (r ∷ []))
+      (at_row : (r q : ℕ) → r < length st → row_below st r ≡ Some q → r < q → q < length st → P q (path st q) → P r (r ∷ path st q)) where
     pub by-path : (r : ℕ) → r < length st → P r (path st r)
     unfolding path
     by-path r h = by-route (row_below st) (length st) later P at-end at_row r h
@@ -78,9 +78,9 @@ module _ (st : List Station) where
 
 module _ (b : Basin) (c : Connected b) where
   -- a row without one below is the outlet
-  end-is-last : (r : ℕ) → r < rows b → row_below b.stations r ≡ none → r ≡ last_row b
+  end-is-last : (r : ℕ) → r < rows b → row_below b.stations r ≡ None → r ≡ last_row b
   end-is-last r h e = by_eqb (suc r) (rows b) (λ _. r ≡ last_row b) (λ f. omega arith)
-      (λ f. let d = c.has_below r (omega arith) in let g : none ≡ some d.0 = sym e ∙ d.1 in absurd (let z : ◌≡◌ {A = ℕ} 0 1 = cc in omega arith))
+      (λ f. let d = c.has_below r (omega arith) in let g : None ≡ Some d.0 = sym e ∙ d.1 in absurd (let z : ◌≡◌ {A = ℕ} 0 1 = cc in omega arith))
 
   -- the last row is on the path of each row
   pub path-last : (r : ℕ) → r < rows b → has (last_row b) (path b.stations r) ≡ true

@@ -1,7 +1,7 @@
 -- What a list of calls may start from: the fresh start, and wherever a tally stands. Assumes nothing.
+use Rattle.std.specs.Prelude.{Option, None, Some}
 use mathlib.Core.Bool.{false}
 use mathlib.Core.List.{List, [], ◌∷◌, ◌++◌}
-use mathlib.Core.Option.{Option, none, some}
 use Prim.Native.Nat.{ℕ, suc, ◌*◌, ◌≤◌, ◌<◌}
 use native.Mathlib.Omega.{arith}
 use native.Mathlib.Decide.{dec_lt}
@@ -102,8 +102,8 @@ unfolding after_call after_judged
 call-possible b acc t c p = go (refusal b c)
   where
     go : (v : Option Answer) → Possible b (standing b (after_judged v b t c))
-    go none = accept-possible b acc t c p
-    go (some a) = p
+    go None = accept-possible b acc t c p
+    go (Some a) = p
 
 pub calls-possible : (b : Basin) → Accepted b → (t : Tally) (cs : List Call) → Possible b (standing b t) → Possible b (standing b (after_calls b t cs))
 unfolding after_calls

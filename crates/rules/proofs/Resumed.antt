@@ -1,7 +1,7 @@
 -- Tallies that stand alike go on alike, and one begun where another stands is such a one. Assumes nothing.
+use Rattle.std.specs.Prelude.{Option, None, Some}
 use mathlib.Core.Path.{◌≡◌, refl, sym, ap, ◌∙◌}
 use mathlib.Core.List.{List, [], ◌∷◌}
-use mathlib.Core.Option.{Option, none, some}
 use Prim.Native.Nat.{ℕ, suc, ◌<◌}
 use native.Mathlib.Omega.{arith}
 use native.Mathlib.Decide.{dec_lt}
@@ -46,8 +46,8 @@ module _ (b : Basin) where
   same-call t u c e = go (refusal b c)
     where
       go : (v : Option Answer) → SameStanding b (after_judged v b t c) (after_judged v b u c)
-      go none = same-accept t u c e
-      go (some a) = e
+      go None = same-accept t u c e
+      go (Some a) = e
 
   pub same-calls : (t u : Tally) (cs : List Call) → SameStanding b t u → SameStanding b (after_calls b t cs) (after_calls b u cs)
   unfolding after_calls

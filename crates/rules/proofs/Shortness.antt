@@ -1,9 +1,9 @@
 -- What is noted of a right's months are the months in which its grants were short. Assumes nothing.
+use Rattle.std.specs.Prelude.{Option, None, Some}
 use mathlib.Core.Path.{◌≡◌, refl, sym, ap, ◌∙◌}
 use mathlib.Core.Logic.{◌≢◌}
 use mathlib.Core.Bool.{Bool, true, false, not, cond, ◌||◌}
 use mathlib.Core.List.{List, [], ◌∷◌, ◌++◌}
-use mathlib.Core.Option.{Option, none, some}
 use Prim.Native.Nat.{ℕ, zero, suc, ◌+◌, ◌≤◌, ◌<◌}
 use native.Mathlib.Omega.{arith}
 use lib.Dec.{leb, ltb, eqb}
@@ -93,8 +93,8 @@ no-mark (suc n) (suc i) k = no-mark n i k
 pub fresh-short : (b : Basin) (hs : List MonthRun) (i : ℕ) → short_now (fresh_start b) hs i ≡ short_in i (since_october hs)
 unfolding short_now short_before fresh_start fresh_carried
 fresh-short b hs i =
-    let none = others-unset (shorts_of (fresh_carried b) i) 0 (length hs) (no-mark (length b.rights) i) in
-    omega (arith, ap (only (not (any_october hs))) none, only_none (not (any_october hs)))
+    let None = others-unset (shorts_of (fresh_carried b) i) 0 (length hs) (no-mark (length b.rights) i) in
+    omega (arith, ap (only (not (any_october hs))) None, only_none (not (any_october hs)))
 
 -- ---- the months of the present water year, with one more
 
@@ -229,8 +229,8 @@ module _ (b : Basin) (s : Start) (i : ℕ) (l : i < length b.rights) where
   call-year t c y = go (refusal b c)
     where
       go : (v : Option Answer) → TallyYear (after_judged v b t c)
-      go none = accept-year t c y
-      go (some a) = y
+      go None = accept-year t c y
+      go (Some a) = y
 
   calls-year : (t : Tally) (cs : List Call) → TallyYear t → TallyYear (after_calls b t cs)
   unfolding after_calls

@@ -1,8 +1,8 @@
 -- The water of a list of calls. Assumes nothing.
+use Rattle.std.specs.Prelude.{Option, None, Some}
 use mathlib.Core.Path.{◌≡◌, refl, ap, ◌∙◌}
 use mathlib.Core.Bool.{true}
 use mathlib.Core.List.{List, [], ◌∷◌, ◌++◌}
-use mathlib.Core.Option.{Option, none, some}
 use Prim.Native.Nat.{ℕ, ◌+◌}
 use native.Mathlib.Omega.{arith}
 use lib.ListN.{length, get_or}
@@ -29,12 +29,12 @@ use Rattle.rules.proofs.Reservoirs.{month-entry}
 use Rattle.rules.proofs.Pending.{transit-on, transit-begins, arriving-sum}
 
 -- the lists of an accepted call fit
-pub accepted-fits : (b : Basin) (c : Call) → refusal b c ≡ none → lists_fit b c ≡ true
+pub accepted-fits : (b : Basin) (c : Call) → refusal b c ≡ None → lists_fit b c ≡ true
 unfolding refusal
 accepted-fits b c e = unless-none (lists_fit b c) Lists (or-first (unless (lists_fit b c) Lists) (over_answer (over_limit c.runoff)) e)
 
 -- it has one runoff number to a row
-accepted-length : (b : Basin) (c : Call) → refusal b c ≡ none → length c.runoff ≡ rows b
+accepted-length : (b : Basin) (c : Call) → refusal b c ≡ None → length c.runoff ≡ rows b
 unfolding lists_fit
 accepted-length b c e = eq_of (both_of (accepted-fits b c e)).0
 
@@ -126,8 +126,8 @@ unfolding after_call after_judged
 call_ok b acc t c o = go (refusal b c) refl
   where
     go : (v : Option Answer) → refusal b c ≡ v → TallyOk b (after_judged v b t c)
-    go none e = accept-ok b acc t c (accepted-length b c e) o
-    go (some a) e = o
+    go None e = accept-ok b acc t c (accepted-length b c e) o
+    go (Some a) e = o
 
 pub calls-ok : (b : Basin) → Accepted b → (t : Tally) (cs : List Call) → TallyOk b t → TallyOk b (after_calls b t cs)
 unfolding after_calls
@@ -140,8 +140,8 @@ unfolding after_call after_judged accept
 call-start b t c = go (refusal b c)
   where
     go : (v : Option Answer) → (after_judged v b t c).start ≡ t.start
-    go none = refl
-    go (some a) = refl
+    go None = refl
+    go (Some a) = refl
 
 pub calls-start : (b : Basin) (t : Tally) (cs : List Call) → (after_calls b t cs).start ≡ t.start
 unfolding after_calls

@@ -1,6 +1,5 @@
 -- What a basin that the file check accepts must provide to the rules: one record of plain facts.
-use Rattle.std.specs.Prelude.{◌≡◌, true, List, [], ◌⊎◌, ℕ, suc, ◌≤◌, ◌<◌, length, get_or}
-use Rattle.std.proofs.Math.Option.{some}
+use Rattle.std.specs.Prelude.{◌≡◌, true, List, [], ◌⊎◌, ℕ, suc, ◌≤◌, ◌<◌, length, get_or, Some}
 use Rattle.general.specs.Sums.{sum}
 use Rattle.general.specs.Tables.{All}
 use Rattle.general.specs.Tests.{has}
@@ -15,7 +14,7 @@ most_amount = 1_000_000_000
 -- Each row but the last has a row below.
 pub record Connected (b : Basin) : Type 0 where
   pub some_row : 0 < rows b
-  pub has_below : (r : ℕ) → suc r < rows b → (q : ℕ) × (row_below b.stations r ≡ some q)
+  pub has_below : (r : ℕ) → suc r < rows b → (q : ℕ) × (row_below b.stations r ≡ Some q)
 
 pub record GoodReservoir (b : Basin) (v : Reservoir) : Type 0 where
   pub row_in : v.row < rows b

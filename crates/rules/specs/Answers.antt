@@ -1,6 +1,5 @@
 -- What a call answers: a number and a place (01, "Numbers for what is turned down"; 02, Nos. 4 and 7). This is the only table of the numbers.
-use Rattle.std.specs.Prelude.{Bool, true, false, ℕ}
-use Rattle.std.proofs.Math.Option.{Option, none, some}
+use Rattle.std.specs.Prelude.{Bool, true, false, ℕ, Option, None, Some}
 use Rattle.rules.specs.declared.Verdict.{Verdict}
 use Rattle.rules.specs.declared.Verdict.TheVariants.{Accepted, Layout, Station, Reservoir, Pattern, Right, Lists, Board, Runoff, Book, Year, Name, Full}
 
@@ -47,10 +46,10 @@ told v = record { number = number_of v; place = place_of v }
 
 -- a refusal, or else what comes after
 unfoldable pub or_else : Option Answer → Option Answer → Option Answer
-or_else none later = later
-or_else (some a) later = some a
+or_else None later = later
+or_else (Some a) later = Some a
 
 -- refused with this verdict, unless the test holds
 unfoldable pub unless : Bool → Verdict → Option Answer
-unless true v = none
-unless false v = some (told v)
+unless true v = None
+unless false v = Some (told v)

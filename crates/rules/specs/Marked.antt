@@ -1,7 +1,6 @@
 -- The list marked M (01, "One October, whole") as one claim: each field is an item. After it, as a second claim, small cases that October does not tell
 -- apart from a slip.
-use Rattle.std.specs.Prelude.{◌≡◌, Bool, true, false, List, [], ◌∷◌, ◌++◌, ℕ, suc, ◌+◌, ◌-◌, length, get_or, replicate, pos}
-use Rattle.std.proofs.Math.Option.{none, some}
+use Rattle.std.specs.Prelude.{◌≡◌, Bool, true, false, List, [], ◌∷◌, ◌++◌, ℕ, suc, ◌+◌, ◌-◌, length, get_or, replicate, pos, None, Some}
 use Rattle.general.specs.Tables.{tab}
 use Rattle.rules.specs.Basin.{Station, Survey, Reservoir, Kind, direct, project, instream, Right, Basin}
 use Rattle.rules.specs.Path.{row_below, path}
@@ -67,7 +66,7 @@ pub record Marked : Type 0 where
   -- months word 0 asks 0: of every kind, in every basin, month and state
   pub no_month : (k : Kind) (b : Basin) (m i : ℕ) (r : Right) (s : State) → r.months ≡ 0 → demand k b m i r s ≡ 0
   -- the row below 100 is 200
-  pub below_100 : row_below october_stations 0 ≡ some 1
+  pub below_100 : row_below october_stations 0 ≡ Some 1
 
 -- ---- cases that October misses
 
@@ -200,13 +199,13 @@ marked_by m c = after_calls drawn_basin (begun (marks_before m)) (c ∷ [])
 -- A year whose October is over the limit, and one whose last two months are, at the second row and at the first. The reports of the basin, of two rows, one
 -- reservoir and no right, have six numbers.
 abbrev pub wet_october : YearRun
-wet_october = record { lookup = none; sheets = (1_000_000_001 ∷ 0 ∷ []) ∷ replicate 11 (100 ∷ 0 ∷ []); room = 72 }
+wet_october = record { lookup = None; sheets = (1_000_000_001 ∷ 0 ∷ []) ∷ replicate 11 (100 ∷ 0 ∷ []); room = 72 }
 
 abbrev pub wet_autumn : ℕ → YearRun
-wet_autumn room = record { lookup = none; sheets = replicate 10 (100 ∷ 0 ∷ []) ++ ((0 ∷ 1_000_000_001 ∷ []) ∷ (1_000_000_001 ∷ 0 ∷ []) ∷ []); room = room }
+wet_autumn room = record { lookup = None; sheets = replicate 10 (100 ∷ 0 ∷ []) ++ ((0 ∷ 1_000_000_001 ∷ []) ∷ (1_000_000_001 ∷ 0 ∷ []) ∷ []); room = room }
 
 abbrev pub unlisted : YearRun
-unlisted = record { lookup = some (told Year); sheets = []; room = 0 }
+unlisted = record { lookup = Some (told Year); sheets = []; room = 0 }
 
 -- four calls that are refused, and one that is accepted
 abbrev pub mixed_calls : List Call

@@ -1,6 +1,5 @@
 -- The river's network (01, "The path of a row"). It is read off the stations alone.
-use Rattle.std.specs.Prelude.{Bool, true, false, ◌||◌, List, [], ◌∷◌, ℕ, suc, ◌-◌, eqb, length}
-use Rattle.std.proofs.Math.Option.{Option}
+use Rattle.std.specs.Prelude.{Bool, true, false, ◌||◌, List, [], ◌∷◌, ℕ, suc, ◌-◌, eqb, length, Option}
 use Rattle.general.specs.Routes.{follow}
 use Rattle.general.specs.Tests.{first_at}
 use Rattle.rules.specs.Basin.{Station, Basin, rows, station_at}

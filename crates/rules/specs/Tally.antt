@@ -1,8 +1,7 @@
 -- The tally of a list of month calls (01, "The tally of a list of months"): a second account of the same months, which has no board to go wrong. It is fed
 -- the basin, what the list starts from, and each call's runoff and report length. 01 starts it as fresh. Here it starts from whatever a possible board
 -- holds, since a month keeps its promise on each such board; fresh is one case.
-use Rattle.std.specs.Prelude.{Bool, false, List, [], ◌∷◌, ◌++◌, map, ℕ, suc, ◌+◌, leb, ltb, eqb, length, get_or, replicate}
-use Rattle.std.proofs.Math.Option.{Option, none, some}
+use Rattle.std.specs.Prelude.{Bool, false, List, [], ◌∷◌, ◌++◌, map, ℕ, suc, ◌+◌, leb, ltb, eqb, length, get_or, replicate, Option, None, Some}
 use Rattle.general.specs.Sums.{sum_to, only}
 use Rattle.general.specs.Tables.{tab}
 use Rattle.general.specs.Tests.{◌and◌, first_at}
@@ -35,8 +34,8 @@ unfoldable pub over_limit : List ℕ → Option ℕ
 over_limit runoff = first_at (length runoff) 0 (λ i. ltb most_runoff (get_or runoff i 0))
 
 unfoldable pub over_answer : Option ℕ → Option Answer
-over_answer none = none
-over_answer (some i) = some (told (Runoff i))
+over_answer None = None
+over_answer (Some i) = Some (told (Runoff i))
 
 -- The answer where the call is refused, none where it is accepted. Lists that do not fit come before runoff over its limit.
 unfoldable pub refusal : Basin → Call → Option Answer
@@ -105,8 +104,8 @@ standing b t = record { carried = t.carried; due = pending b t.start t.months }
 
 -- A refused call is no month, and leaves the tally as it was.
 unfoldable pub after_judged : Option Answer → Basin → Tally → Call → Tally
-after_judged none b t c = accept b t c
-after_judged (some a) b t c = t
+after_judged None b t c = accept b t c
+after_judged (Some a) b t c = t
 
 unfoldable pub after_call : Basin → Tally → Call → Tally
 after_call b t c = after_judged (refusal b c) b t c
@@ -118,8 +117,8 @@ after_calls b t (c ∷ cs) = after_calls b (after_call b t c) cs
 -- ---- its answers
 
 unfoldable pub answer_judged : Option Answer → Basin → Tally → Call → Answer
-answer_judged none b t c = record { number = 0; place = short_count (next_run b t c).turns }
-answer_judged (some a) b t c = a
+answer_judged None b t c = record { number = 0; place = short_count (next_run b t c).turns }
+answer_judged (Some a) b t c = a
 
 unfoldable pub answer_of : Basin → Tally → Call → Answer
 answer_of b t c = answer_judged (refusal b c) b t c

@@ -1,7 +1,6 @@
 -- Year runs in the tally (02, No. 4): the month calls of a water year, which happen whole or not at all; and lists in which month calls and year runs stand
 -- in any mix. As of a month call, a run's board is never the cause of its refusal here: the tally has no board.
-use Rattle.std.specs.Prelude.{Bool, List, [], ◌∷◌, ◌++◌, map, ℕ, ◌*◌, leb, length, drop}
-use Rattle.std.proofs.Math.Option.{Option, none, some}
+use Rattle.std.specs.Prelude.{Bool, List, [], ◌∷◌, ◌++◌, map, ℕ, ◌*◌, leb, length, drop, Option, None, Some}
 use Rattle.rules.specs.declared.Verdict.TheVariants.{Lists}
 use Rattle.rules.specs.Answers.{Answer, or_else, unless}
 use Rattle.rules.specs.Basin.{Basin}
@@ -29,7 +28,7 @@ room_for_year b room = leb (12 * report_length b) room
 
 -- of a list of calls, the refusal of the first that is refused
 unfoldable pub first_refusal : Basin → List Call → Option Answer
-first_refusal b [] = none
+first_refusal b [] = None
 first_refusal b (c ∷ cs) = or_else (refusal b c) (first_refusal b cs)
 
 -- what the look-up turned down; then the list for the reports; then the first of the calls that is refused
@@ -38,8 +37,8 @@ run_refusal b t y = or_else y.lookup (or_else (unless (room_for_year b y.room) L
 
 -- an accepted run answers how many calls it made
 unfoldable pub run_answer : Option Answer → ℕ → Answer
-run_answer none calls = record { number = 0; place = calls }
-run_answer (some a) calls = a
+run_answer None calls = record { number = 0; place = calls }
+run_answer (Some a) calls = a
 
 -- ---- lists of month calls and year runs
 
@@ -49,8 +48,8 @@ pub data Entry : Type 0 where
 
 -- an accepted run counts as its calls, a refused one as none
 unfoldable pub run_counts : Option Answer → List Call → List Call
-run_counts none cs = cs
-run_counts (some a) cs = []
+run_counts None cs = cs
+run_counts (Some a) cs = []
 
 -- the month calls that an entry counts as
 unfoldable pub counts_as : Basin → Tally → Entry → List Call

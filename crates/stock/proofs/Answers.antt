@@ -1,8 +1,8 @@
 -- Each answer of stock, case by case. Assumes nothing.
+use Rattle.std.specs.Prelude.{None}
 use mathlib.Core.Path.{◌≡◌}
 use mathlib.Core.Bool.{true, false}
 use mathlib.Core.List.{List}
-use mathlib.Core.Option.{none}
 use Prim.Native.Nat.{ℕ}
 use lib.ListN.{length}
 use Rattle.general.proofs.Tests.{eqb_same, eqb-other, eq_of}
@@ -54,7 +54,7 @@ module _ (f board : List ℕ) where
       let k = lent-clear f (board_fits board) board a e n in
       record { file-ok = k.file-ok; size = eq_of k.lists-ok; board-ok = k.board-ok }
 
-  pub clear_none : Clear → stock_refusal f board ≡ none
+  pub clear_none : Clear → stock_refusal f board ≡ None
   unfolding stock_refusal
   clear_none k = lent_none f (board_fits board) board k.file-ok (fits k.file-ok k.size) k.board-ok
 

@@ -1,7 +1,6 @@
 -- The call short_months (02, No. 6): in how many months of the present water year a right was short, for every file, list and place of a right, refusals
 -- included. It is refused as stock is.
-use Rattle.std.specs.Prelude.{List, ℕ, ltb, length}
-use Rattle.std.proofs.Math.Option.{Option, none, some}
+use Rattle.std.specs.Prelude.{List, ℕ, ltb, length, Option, None, Some}
 use Rattle.general.specs.Sums.{only}
 use Rattle.general.specs.Tests.{bits_set}
 use Rattle.places.specs.Board.{word_at}
@@ -21,8 +20,8 @@ unfoldable pub short_months : Basin → List ℕ → ℕ → ℕ
 short_months b board i = only (ltb i (length b.rights)) (bits_set 12 (word_at board i))
 
 unfoldable pub months_settled : Option Answer → Basin → List ℕ → ℕ → Months
-months_settled none b board i = record { number = 0; place = 0; months = short_months b board i }
-months_settled (some a) b board i = record { number = a.number; place = a.place; months = 0 }
+months_settled None b board i = record { number = 0; place = 0; months = short_months b board i }
+months_settled (Some a) b board i = record { number = a.number; place = a.place; months = 0 }
 
 unfoldable pub short_months_of : List ℕ → List ℕ → ℕ → Months
 short_months_of f board i = months_settled (stock_refusal f board) (basin_of f) board i

@@ -1,6 +1,5 @@
 -- The call stock: the sums of a board, for every file and every list, refusals included.
-use Rattle.std.specs.Prelude.{List, ℕ}
-use Rattle.std.proofs.Math.Option.{Option, none, some}
+use Rattle.std.specs.Prelude.{List, ℕ, Option, None, Some}
 use Rattle.rules.specs.Answers.{Answer}
 use Rattle.records.specs.Records.{basin_of}
 use Rattle.boards.specs.Board.{board_fits, storage_sum, due_sum}
@@ -17,8 +16,8 @@ pub record Stock : Type 0 where
   pub due : ℕ
 
 unfoldable pub stock_settled : Option Answer → List ℕ → List ℕ → Stock
-stock_settled none f board = record { number = 0; place = 0; storage = storage_sum (basin_of f) board; due = due_sum (basin_of f) board }
-stock_settled (some a) f board = record { number = a.number; place = a.place; storage = 0; due = 0 }
+stock_settled None f board = record { number = 0; place = 0; storage = storage_sum (basin_of f) board; due = due_sum (basin_of f) board }
+stock_settled (Some a) f board = record { number = a.number; place = a.place; storage = 0; due = 0 }
 
 unfoldable pub stock_of : List ℕ → List ℕ → Stock
 stock_of f board = stock_settled (stock_refusal f board) f board

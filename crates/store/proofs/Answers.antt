@@ -1,8 +1,8 @@
 -- Each answer of save, recall and drop, case by case. Assumes nothing.
+use Rattle.std.specs.Prelude.{Option, None, Some}
 use mathlib.Core.Path.{◌≡◌, refl, sym, ap, ◌∙◌}
 use mathlib.Core.Bool.{Bool, true, false, not}
 use mathlib.Core.List.{List}
-use mathlib.Core.Option.{Option, none, some}
 use Prim.Native.Nat.{ℕ}
 use native.Mathlib.Omega.{arith}
 use lib.Dec.{eqb}
@@ -66,16 +66,16 @@ module _ (t : Bool) (n : List ℕ) where
   unfolding name_refusal or_else unless settled
   name-good e z = rw (e, z)
 
-  pub name-none : t ≡ true → same_name n no_name ≡ false → name_refusal t n ≡ none
+  pub name-none : t ≡ true → same_name n no_name ≡ false → name_refusal t n ≡ None
   unfolding name_refusal or_else unless
   name-none e z = rw (e, z)
 
 -- by its two tests: refused with a number, or both are kept
-pub by_name : (t : Bool) (n : List ℕ) (P : Option Answer → Type 0) → ((a : Answer) → (a.number ≡ 0 → ⊥) → P (some a)) → (t ≡ true → same_name n no_name ≡ false → P none) → P (name_refusal t n)
+pub by_name : (t : Bool) (n : List ℕ) (P : Option Answer → Type 0) → ((a : Answer) → (a.number ≡ 0 → ⊥) → P (Some a)) → (t ≡ true → same_name n no_name ≡ false → P None) → P (name_refusal t n)
 unfolding name_refusal or_else unless
 by_name t n P down kept = go t (same_name n no_name) kept
   where
-    go : (u z : Bool) → (u ≡ true → z ≡ false → P none) → P (or_else (unless u Lists) (unless (not z) Name))
+    go : (u z : Bool) → (u ≡ true → z ≡ false → P None) → P (or_else (unless u Lists) (unless (not z) Name))
     go false z k = down (told Lists) (λ e. omega (arith, e))
     go true true k = down (told Name) (λ e. omega (arith, e))
     go true false k = k refl refl
@@ -84,30 +84,30 @@ by_name t n P down kept = go t (same_name n no_name) kept
 pub record Clear (s n : List ℕ) (fits : Bool) : Type 0 where
   pub lists : Fitting s n fits
   pub used : same_name n no_name ≡ false
-  pub none-refused : name_refusal (store_fits s n and fits) n ≡ none
+  pub none-refused : name_refusal (store_fits s n and fits) n ≡ None
 
 pub clear_of : (s n : List ℕ) (fits : Bool) (a : Answer) → a ≡ settled (name_refusal (store_fits s n and fits) n) → a.number ≡ 0 → Clear s n fits
 unfolding settled
 clear_of s n fits a e h = by_name (store_fits s n and fits) n (λ o. name_refusal (store_fits s n and fits) n ≡ o → a ≡ settled o → Clear s n fits) down kept refl e
   where
-    down : (x : Answer) → (x.number ≡ 0 → ⊥) → name_refusal (store_fits s n and fits) n ≡ some x → a ≡ settled (some x) → Clear s n fits
+    down : (x : Answer) → (x.number ≡ 0 → ⊥) → name_refusal (store_fits s n and fits) n ≡ Some x → a ≡ settled (Some x) → Clear s n fits
     down x g q w = absurd (g (ap (λ (y : Answer). y.number) (sym w) ∙ h))
 
-    kept : (store_fits s n and fits) ≡ true → same_name n no_name ≡ false → name_refusal (store_fits s n and fits) n ≡ none → a ≡ settled none → Clear s n fits
+    kept : (store_fits s n and fits) ≡ true → same_name n no_name ≡ false → name_refusal (store_fits s n and fits) n ≡ None → a ≡ settled None → Clear s n fits
     kept f z q w = record { lists = fitting s n fits f; used = z; none-refused = q }
 
 -- ---- what a call comes to
 
 module _ (o : Option Answer) (found : Option ℕ) (cause : Verdict) where
-  meant-down : (a : Answer) → o ≡ some a → meant_by o found cause ≡ refused a
+  meant-down : (a : Answer) → o ≡ Some a → meant_by o found cause ≡ refused a
   unfolding meant_by
   meant-down a e = rw e
 
-  meant-none : o ≡ none → found ≡ none → meant_by o found cause ≡ refused (told cause)
+  meant-none : o ≡ None → found ≡ None → meant_by o found cause ≡ refused (told cause)
   unfolding meant_by
   meant-none e f = rw (e, f)
 
-  meant-some : (k : ℕ) → o ≡ none → found ≡ some k → meant_by o found cause ≡ entry k
+  meant-some : (k : ℕ) → o ≡ None → found ≡ Some k → meant_by o found cause ≡ entry k
   unfolding meant_by
   meant-some k e f = rw (e, f)
 
@@ -123,28 +123,28 @@ module _ (s n b : List ℕ) where
   unfolding recall_of
   recall-by v e = ap (λ (x : Meant). recall_by x s b) (sym e)
 
-  pub save-down : (a : Answer) → before ≡ some a → record { answer = a; store = s } ≡ save_of s n b
+  pub save-down : (a : Answer) → before ≡ Some a → record { answer = a; store = s } ≡ save_of s n b
   unfolding save_means save_by
   save-down a e = save-by (refused a) (meant-down before (place_for s n) Full a e)
 
-  pub recall-down : (a : Answer) → before ≡ some a → record { answer = a; board = b } ≡ recall_of s n b
+  pub recall-down : (a : Answer) → before ≡ Some a → record { answer = a; board = b } ≡ recall_of s n b
   unfolding recall_means recall_by
   recall-down a e = recall-by (refused a) (meant-down before (first_named s n) Name a e)
 
-  module _ (clear : before ≡ none) where
-    pub save-full : place_for s n ≡ none → record { answer = told Full; store = s } ≡ save_of s n b
+  module _ (clear : before ≡ None) where
+    pub save-full : place_for s n ≡ None → record { answer = told Full; store = s } ≡ save_of s n b
     unfolding save_means save_by
     save-full e = save-by (refused (told Full)) (meant-none before (place_for s n) Full clear e)
 
-    pub save-made : (e : ℕ) → place_for s n ≡ some e → record { answer = accepted; store = saved s e n b } ≡ save_of s n b
+    pub save-made : (e : ℕ) → place_for s n ≡ Some e → record { answer = accepted; store = saved s e n b } ≡ save_of s n b
     unfolding save_means save_by
     save-made e g = save-by (entry e) (meant-some before (place_for s n) Full e clear g)
 
-    pub recall-none : first_named s n ≡ none → record { answer = told Name; board = b } ≡ recall_of s n b
+    pub recall-none : first_named s n ≡ None → record { answer = told Name; board = b } ≡ recall_of s n b
     unfolding recall_means recall_by
     recall-none e = recall-by (refused (told Name)) (meant-none before (first_named s n) Name clear e)
 
-    pub recall-made : (e : ℕ) → first_named s n ≡ some e → record { answer = accepted; board = board_at s e } ≡ recall_of s n b
+    pub recall-made : (e : ℕ) → first_named s n ≡ Some e → record { answer = accepted; board = board_at s e } ≡ recall_of s n b
     unfolding recall_means recall_by
     recall-made e g = recall-by (entry e) (meant-some before (first_named s n) Name e clear g)
 
@@ -156,16 +156,16 @@ module _ (s n : List ℕ) where
   unfolding drop_of
   drop-by v e = ap (λ (x : Meant). drop_by x s) (sym e)
 
-  pub drop-down : (a : Answer) → before-drop ≡ some a → record { answer = a; store = s } ≡ drop_of s n
+  pub drop-down : (a : Answer) → before-drop ≡ Some a → record { answer = a; store = s } ≡ drop_of s n
   unfolding name_means drop_by
   drop-down a e = drop-by (refused a) (meant-down before-drop (first_named s n) Name a e)
 
-  module _ (clear : before-drop ≡ none) where
-    pub drop-none : first_named s n ≡ none → record { answer = told Name; store = s } ≡ drop_of s n
+  module _ (clear : before-drop ≡ None) where
+    pub drop-none : first_named s n ≡ None → record { answer = told Name; store = s } ≡ drop_of s n
     unfolding name_means drop_by
     drop-none e = drop-by (refused (told Name)) (meant-none before-drop (first_named s n) Name clear e)
 
-    pub drop-made : (e : ℕ) → first_named s n ≡ some e → record { answer = accepted; store = dropped s e } ≡ drop_of s n
+    pub drop-made : (e : ℕ) → first_named s n ≡ Some e → record { answer = accepted; store = dropped s e } ≡ drop_of s n
     unfolding name_means drop_by
     drop-made e g = drop-by (entry e) (meant-some before-drop (first_named s n) Name e clear g)
 
@@ -183,19 +183,19 @@ module _ (s n b : List ℕ) (a : Answer) where
   recall-refused e h = recall-down s n b a (settled-some _ a e h)
 
   module _ (k : Clear s n (board_fits b)) where
-    pub save-wanting : place_for s n ≡ none → a ≡ told Full → record { answer = a; store = s } ≡ save_of s n b
+    pub save-wanting : place_for s n ≡ None → a ≡ told Full → record { answer = a; store = s } ≡ save_of s n b
     save-wanting o e = ap (λ (x : Answer). record { answer = x; store = s }) e ∙ save-full s n b k.none-refused o
 
-    pub save-done : (e : ℕ) {m x y : List ℕ} → place_for s n ≡ some e → a ≡ accepted → m ≡ n → x ≡ over s (name_start e) m → y ≡ over x (board_start e) (bytes_of b) → record { answer = a; store = y } ≡ save_of s n b
+    pub save-done : (e : ℕ) {m x y : List ℕ} → place_for s n ≡ Some e → a ≡ accepted → m ≡ n → x ≡ over s (name_start e) m → y ≡ over x (board_start e) (bytes_of b) → record { answer = a; store = y } ≡ save_of s n b
     unfolding saved
     save-done e o ea em ex ey =
         let p : _ ≡ saved s e n b = ey ∙ ap (λ (z : List ℕ). over z (board_start e) (bytes_of b)) (ex ∙ ap (over s (name_start e)) em) in
         (λ i. record { answer = ea i; store = p i }) ∙ save-made s n b k.none-refused e o
 
-    pub recall-missing : first_named s n ≡ none → a ≡ told Name → record { answer = a; board = b } ≡ recall_of s n b
+    pub recall-missing : first_named s n ≡ None → a ≡ told Name → record { answer = a; board = b } ≡ recall_of s n b
     recall-missing o e = ap (λ (x : Answer). record { answer = x; board = b }) e ∙ recall-none s n b k.none-refused o
 
-    pub recall-done : (e : ℕ) {x : List ℕ} → first_named s n ≡ some e → a ≡ accepted → x ≡ board_at s e → record { answer = a; board = x } ≡ recall_of s n b
+    pub recall-done : (e : ℕ) {x : List ℕ} → first_named s n ≡ Some e → a ≡ accepted → x ≡ board_at s e → record { answer = a; board = x } ≡ recall_of s n b
     recall-done e o ea ex = (λ i. record { answer = ea i; board = ex i }) ∙ recall-made s n b k.none-refused e o
 
 module _ (s n : List ℕ) (a : Answer) where
@@ -203,10 +203,10 @@ module _ (s n : List ℕ) (a : Answer) where
   drop-refused e h = drop-down s n a (sym (drop-judged s n) ∙ settled-some _ a e h)
 
   module _ (k : Clear s n true) where
-    pub drop-missing : first_named s n ≡ none → a ≡ told Name → record { answer = a; store = s } ≡ drop_of s n
+    pub drop-missing : first_named s n ≡ None → a ≡ told Name → record { answer = a; store = s } ≡ drop_of s n
     drop-missing o e = ap (λ (x : Answer). record { answer = x; store = s }) e ∙ drop-none s n (sym (drop-judged s n) ∙ k.none-refused) o
 
-    pub drop-done : (e : ℕ) {x : List ℕ} → first_named s n ≡ some e → a ≡ accepted → x ≡ over s (name_start e) no_name → record { answer = a; store = x } ≡ drop_of s n
+    pub drop-done : (e : ℕ) {x : List ℕ} → first_named s n ≡ Some e → a ≡ accepted → x ≡ over s (name_start e) no_name → record { answer = a; store = x } ≡ drop_of s n
     unfolding dropped
     drop-done e o ea ex =
         let p : _ ≡ dropped s e = ex in

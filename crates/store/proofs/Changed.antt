@@ -1,8 +1,8 @@
 -- Names and boards of entries, and the first entry with a name. Assumes nothing.
+use Rattle.std.specs.Prelude.{None, Some}
 use mathlib.Core.Path.{◌≡◌, refl, sym, ap, ◌∙◌}
 use mathlib.Core.Bool.{Bool, true, false}
 use mathlib.Core.List.{List}
-use mathlib.Core.Option.{none, some}
 use Prim.Native.Nat.{ℕ, zero, suc, ◌+◌, ◌*◌, ◌≤◌, ◌<◌}
 use native.Mathlib.Decide.{dec_lt}
 use native.Mathlib.Omega.{arith}
@@ -27,22 +27,22 @@ use Rattle.entries.proofs.Numbers.{length-bytes, bytes-at, board-length, board-p
 -- ---- a first number with what it passes and what fails before it
 
 module _ (t : ℕ → Bool) where
-  first-is : (n i e : ℕ) → i ≤ e → e < i + n → t e ≡ true → ((j : ℕ) → i ≤ j → j < e → t j ≡ false) → first_at n i t ≡ some e
+  first-is : (n i e : ℕ) → i ≤ e → e < i + n → t e ≡ true → ((j : ℕ) → i ≤ j → j < e → t j ≡ false) → first_at n i t ≡ Some e
   first-is zero i e h k f g = absurd (omega arith)
-  first-is (suc n) i e h k f g = by_eqb i e (λ _. first_at (suc n) i t ≡ some e)
-      (λ q. first-here t n i (ap t q ∙ f) ∙ ap some q)
+  first-is (suc n) i e h k f g = by_eqb i e (λ _. first_at (suc n) i t ≡ Some e)
+      (λ q. first-here t n i (ap t q ∙ f) ∙ ap Some q)
       (λ q. first-later t n i (g i (omega arith) (omega arith)) ∙ first-is n (suc i) e (omega arith) (omega arith) f (λ j l m. g j (omega arith) m))
 
-  first-never : (n i : ℕ) → ((j : ℕ) → i ≤ j → j < i + n → t j ≡ false) → first_at n i t ≡ none
+  first-never : (n i : ℕ) → ((j : ℕ) → i ≤ j → j < i + n → t j ≡ false) → first_at n i t ≡ None
   first-never zero i g = first-over t i
   first-never (suc n) i g = first-later t n i (g i (omega arith) (omega arith)) ∙ first-never n (suc i) (λ j l m. g j (omega arith) (omega arith))
 
-  first_passes : (n i e : ℕ) → first_at n i t ≡ some e → (t e ≡ true) × ((j : ℕ) → i ≤ j → j < e → t j ≡ false)
-  first_passes zero i e f = let g : none ≡ some e = sym (first-over t i) ∙ f in absurd (let z : ◌≡◌ {A = ℕ} 0 1 = cc in omega arith)
+  first_passes : (n i e : ℕ) → first_at n i t ≡ Some e → (t e ≡ true) × ((j : ℕ) → i ≤ j → j < e → t j ≡ false)
+  first_passes zero i e f = let g : None ≡ Some e = sym (first-over t i) ∙ f in absurd (let z : ◌≡◌ {A = ℕ} 0 1 = cc in omega arith)
   first_passes (suc n) i e f = go (t i) refl (first_passes n (suc i) e)
     where
-      go : (b : Bool) → t i ≡ b → (first_at n (suc i) t ≡ some e → (t e ≡ true) × ((j : ℕ) → suc i ≤ j → j < e → t j ≡ false)) → (t e ≡ true) × ((j : ℕ) → i ≤ j → j < e → t j ≡ false)
-      go true g ih = let q : some i ≡ some e = sym (first-here t n i g) ∙ f in let z : i ≡ e = cc in (ap t (sym z) ∙ g, λ j l m. absurd (omega arith))
+      go : (b : Bool) → t i ≡ b → (first_at n (suc i) t ≡ Some e → (t e ≡ true) × ((j : ℕ) → suc i ≤ j → j < e → t j ≡ false)) → (t e ≡ true) × ((j : ℕ) → i ≤ j → j < e → t j ≡ false)
+      go true g ih = let q : Some i ≡ Some e = sym (first-here t n i g) ∙ f in let z : i ≡ e = cc in (ap t (sym z) ∙ g, λ j l m. absurd (omega arith))
       go false g ih =
           let r = ih (sym (first-later t n i g) ∙ f) in
           (r.0, λ j l m. by_eqb i j (λ _. t j ≡ false) (λ q. ap t (sym q) ∙ g) (λ q. r.1 j (omega arith) m))
@@ -100,24 +100,24 @@ module _ (s : List ℕ) (ls : length s ≡ store_length) (e : ℕ) (he : e < 4) 
 -- ---- the first entry with a name
 
 module _ (s : List ℕ) (ls : length s ≡ store_length) (n : List ℕ) (ln : length n ≡ 8) where
-  pub first_of : (e : ℕ) → Earliest s n e → first_named s n ≡ some e
+  pub first_of : (e : ℕ) → Earliest s n e → first_named s n ≡ Some e
   unfolding first_named
   first_of e f =
       let h = f.inside in
       first-is (is_named s n) 4 0 e (omega arith) (omega arith) (named-of s ls e h n ln f.named) (λ j l m. named-not s ls j (omega arith) n ln (f.before j m))
 
-  pub earliest-of : (e : ℕ) → first_named s n ≡ some e → Earliest s n e
+  pub earliest-of : (e : ℕ) → first_named s n ≡ Some e → Earliest s n e
   unfolding first_named
   earliest-of e f =
       let r = first_passes (is_named s n) 4 0 e f in
       let h : e < 4 = (first-within (is_named s n) 4 0 e f).1 in
       record { inside = h; named = named-is s ls e h n ln r.0; before = λ j l g. absurd-bool (named-of s ls j (omega arith) n ln g) (r.1 j (omega arith) l) }
 
-  pub first-unknown : Unknown s n → first_named s n ≡ none
+  pub first-unknown : Unknown s n → first_named s n ≡ None
   unfolding first_named
   first-unknown u = first-never (is_named s n) 4 0 (λ j l m. named-not s ls j (omega arith) n ln (u.nowhere j (omega arith)))
 
-  pub unknown-of : first_named s n ≡ none → Unknown s n
+  pub unknown-of : first_named s n ≡ None → Unknown s n
   unfolding first_named
   unknown-of f = record { nowhere = λ j l g. absurd-bool (named-of s ls j l n ln g) (first-none (is_named s n) 4 0 f j (omega arith) (omega arith)) }
 

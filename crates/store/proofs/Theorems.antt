@@ -1,8 +1,8 @@
 -- The theorems of specs/Theorems.antt. Assumes nothing.
+use Rattle.std.specs.Prelude.{Option, None, Some}
 use mathlib.Core.Path.{◌≡◌, refl, sym, ap, ◌∙◌, subst}
 use mathlib.Core.Bool.{true, false}
 use mathlib.Core.List.{List, [], ◌∷◌}
-use mathlib.Core.Option.{Option, none, some}
 use Prim.Native.Nat.{ℕ, ◌<◌}
 use native.Mathlib.Decide.{dec_lt}
 use native.Mathlib.Omega.{arith}
@@ -29,45 +29,45 @@ usable-of : (s n b : List ℕ) → (store_fits s n and board_fits b) ≡ true �
 usable-of s n b e z = let f = fitting s n (board_fits b) e in record { store = f.store; name = f.name; board = eq_of f.other; used = used-of n z }
 
 -- what may be used is not refused before the look-up
-usable-clear : (s n b : List ℕ) → Usable s n b → name_refusal (store_fits s n and board_fits b) n ≡ none
+usable-clear : (s n b : List ℕ) → Usable s n b → name_refusal (store_fits s n and board_fits b) n ≡ None
 usable-clear s n b u =
     name-none (store_fits s n and board_fits b) n
     (all-fit s n (board_fits b) (record { store = u.store; name = u.name; other = ap (λ (k : ℕ). eqb k board_length) u.board ∙ eqb_same board_length }))
     (used-name n u.name u.used)
 
 -- nor is it by a drop, which has no board
-drop-clear : (s n : List ℕ) → length s ≡ store_length → length n ≡ name_length → (n ≡ no_name → ⊥) → name_refusal (store_fits s n) n ≡ none
+drop-clear : (s n : List ℕ) → length s ≡ store_length → length n ≡ name_length → (n ≡ no_name → ⊥) → name_refusal (store_fits s n) n ≡ None
 drop-clear s n ls ln used = name-none (store_fits s n) n (sym (and-true (store_fits s n)) ∙ all-fit s n true (record { store = ls; name = ln; other = refl })) (used-name n ln used)
 
 save-cases : (s n b : List ℕ) (P : Stored → Type 0) → ((a : Answer) → (a.number ≡ 0 → ⊥) → P (record { answer = a; store = s }))
-    → ((e : ℕ) → Usable s n b → place_for s n ≡ some e → P (record { answer = accepted; store = saved s e n b })) → P (save_of s n b)
+    → ((e : ℕ) → Usable s n b → place_for s n ≡ Some e → P (record { answer = accepted; store = saved s e n b })) → P (save_of s n b)
 save-cases s n b P kept made = by_name (store_fits s n and board_fits b) n (λ o. name_refusal (store_fits s n and board_fits b) n ≡ o → P (save_of s n b))
     (λ a h q. subst P (save-down s n b a q) (kept a h))
     (λ f z q. look (place_for s n) refl q (usable-of s n b f z)) refl
   where
-    look : (o : Option ℕ) → place_for s n ≡ o → name_refusal (store_fits s n and board_fits b) n ≡ none → Usable s n b → P (save_of s n b)
-    look none eo q u = subst P (save-full s n b q eo) (kept (told Full) (λ e. omega (arith, e)))
-    look (some e) eo q u = subst P (save-made s n b q e eo) (made e u eo)
+    look : (o : Option ℕ) → place_for s n ≡ o → name_refusal (store_fits s n and board_fits b) n ≡ None → Usable s n b → P (save_of s n b)
+    look None eo q u = subst P (save-full s n b q eo) (kept (told Full) (λ e. omega (arith, e)))
+    look (Some e) eo q u = subst P (save-made s n b q e eo) (made e u eo)
 
 recall-cases : (s n b : List ℕ) (P : Recalled → Type 0) → ((a : Answer) → (a.number ≡ 0 → ⊥) → P (record { answer = a; board = b }))
-    → ((e : ℕ) → Usable s n b → first_named s n ≡ some e → P (record { answer = accepted; board = board_at s e })) → P (recall_of s n b)
+    → ((e : ℕ) → Usable s n b → first_named s n ≡ Some e → P (record { answer = accepted; board = board_at s e })) → P (recall_of s n b)
 recall-cases s n b P kept made = by_name (store_fits s n and board_fits b) n (λ o. name_refusal (store_fits s n and board_fits b) n ≡ o → P (recall_of s n b))
     (λ a h q. subst P (recall-down s n b a q) (kept a h))
     (λ f z q. look (first_named s n) refl q (usable-of s n b f z)) refl
   where
-    look : (o : Option ℕ) → first_named s n ≡ o → name_refusal (store_fits s n and board_fits b) n ≡ none → Usable s n b → P (recall_of s n b)
-    look none eo q u = subst P (recall-none s n b q eo) (kept (told Name) (λ e. omega (arith, e)))
-    look (some e) eo q u = subst P (recall-made s n b q e eo) (made e u eo)
+    look : (o : Option ℕ) → first_named s n ≡ o → name_refusal (store_fits s n and board_fits b) n ≡ None → Usable s n b → P (recall_of s n b)
+    look None eo q u = subst P (recall-none s n b q eo) (kept (told Name) (λ e. omega (arith, e)))
+    look (Some e) eo q u = subst P (recall-made s n b q e eo) (made e u eo)
 
 drop-cases : (s n : List ℕ) (P : Stored → Type 0) → ((a : Answer) → (a.number ≡ 0 → ⊥) → P (record { answer = a; store = s }))
-    → ((e : ℕ) → length s ≡ store_length → length n ≡ name_length → (n ≡ no_name → ⊥) → first_named s n ≡ some e → P (record { answer = accepted; store = dropped s e })) → P (drop_of s n)
+    → ((e : ℕ) → length s ≡ store_length → length n ≡ name_length → (n ≡ no_name → ⊥) → first_named s n ≡ Some e → P (record { answer = accepted; store = dropped s e })) → P (drop_of s n)
 drop-cases s n P kept made = by_name (store_fits s n) n (λ o. name_refusal (store_fits s n) n ≡ o → P (drop_of s n))
     (λ a h q. subst P (drop-down s n a q) (kept a h))
     (λ f z q. look (first_named s n) refl q (fitting s n true (and-true (store_fits s n) ∙ f)) z) refl
   where
-    look : (o : Option ℕ) → first_named s n ≡ o → name_refusal (store_fits s n) n ≡ none → Fitting s n true → same_name n no_name ≡ false → P (drop_of s n)
-    look none eo q f z = subst P (drop-none s n q eo) (kept (told Name) (λ e. omega (arith, e)))
-    look (some e) eo q f z = subst P (drop-made s n q e eo) (made e f.store f.name (used-of n z) eo)
+    look : (o : Option ℕ) → first_named s n ≡ o → name_refusal (store_fits s n) n ≡ None → Fitting s n true → same_name n no_name ≡ false → P (drop_of s n)
+    look None eo q f z = subst P (drop-none s n q eo) (kept (told Name) (λ e. omega (arith, e)))
+    look (Some e) eo q f z = subst P (drop-made s n q e eo) (made e f.store f.name (used-of n z) eo)
 
 -- ---- refused calls
 
@@ -109,14 +109,14 @@ dropped_entry s e l h = dropped-entry s l e h
 -- ---- recall after a save
 
 -- before the entry that a save writes no entry bears the name
-pub unnamed-before : (s n : List ℕ) (e : ℕ) → length s ≡ store_length → length n ≡ 8 → place_for s n ≡ some e → (j : ℕ) → j < e → name_at s j ≡ n → ⊥
+pub unnamed-before : (s n : List ℕ) (e : ℕ) → length s ≡ store_length → length n ≡ 8 → place_for s n ≡ Some e → (j : ℕ) → j < e → name_at s j ≡ n → ⊥
 unnamed-before s n e ls ln f j h = go (first_named s n) refl
   where
     go : (o : Option ℕ) → first_named s n ≡ o → name_at s j ≡ n → ⊥
-    go none g = let i = place-within s n e f in (unknown-of s ls n ln g).nowhere j (omega arith)
-    go (some k) g = let q : some k ≡ some e = sym (place-named s n k g) ∙ f in (earliest-of s ls n ln e (g ∙ q)).before j h
+    go None g = let i = place-within s n e f in (unknown-of s ls n ln g).nowhere j (omega arith)
+    go (Some k) g = let q : Some k ≡ Some e = sym (place-named s n k g) ∙ f in (earliest-of s ls n ln e (g ∙ q)).before j h
 
-saved-earliest : (s n b : List ℕ) (e : ℕ) → Usable s n b → place_for s n ≡ some e → Earliest (saved s e n b) n e
+saved-earliest : (s n b : List ℕ) (e : ℕ) → Usable s n b → place_for s n ≡ Some e → Earliest (saved s e n b) n e
 saved-earliest s n b e u f =
     let h = place-within s n e f in
     record {
@@ -148,12 +148,12 @@ same-recall s s' n c e ls o was now = by_name (store_fits s n and board_fits c) 
     same-before : name_refusal (store_fits s' n and board_fits c) n ≡ name_refusal (store_fits s n and board_fits c) n
     same-before = ap (λ (k : ℕ). name_refusal (eqb k store_length and eqb (length n) name_length and board_fits c) n) o.length
 
-    look : (x : Option ℕ) → first_named s n ≡ x → name_refusal (store_fits s n and board_fits c) n ≡ none → Usable s n c → recall_of s' n c ≡ recall_of s n c
-    look none ex q u =
+    look : (x : Option ℕ) → first_named s n ≡ x → name_refusal (store_fits s n and board_fits c) n ≡ None → Usable s n c → recall_of s' n c ≡ recall_of s n c
+    look None ex q u =
         let k = unknown-of s ls n u.name ex in
         let k' : Unknown s' n = record { nowhere = λ j h. by_eqb j e (λ _. name_at s' j ≡ n → ⊥) (λ q g. now u.used (ap (name_at s') (sym q) ∙ g)) (λ q g. k.nowhere j h (sym (o.names j h q) ∙ g)) } in
         sym (recall-none s' n c (same-before ∙ q) (first-unknown s' ls' n u.name k')) ∙ recall-none s n c q ex
-    look (some d) ex q u =
+    look (Some d) ex q u =
         let f = earliest-of s ls n u.name d ex in
         let i = f.inside in
         let ne : d ≡ e → ⊥ = λ q. was u.used (ap (name_at s) (sym q) ∙ f.named) in
@@ -161,12 +161,12 @@ same-recall s s' n c e ls o was now = by_name (store_fits s n and board_fits c) 
         sym (recall-made s' n c (same-before ∙ q) d (first_of s' ls' n u.name d f')) ∙ ap back (o.boards d i ne) ∙ recall-made s n c q d ex
 
 -- the entry that a save writes bore the name, or none
-place-named-or-empty : (s m : List ℕ) (e : ℕ) → length s ≡ store_length → length m ≡ 8 → place_for s m ≡ some e → (n : List ℕ) → (m ≡ n → ⊥) → (n ≡ no_name → ⊥) → name_at s e ≡ n → ⊥
+place-named-or-empty : (s m : List ℕ) (e : ℕ) → length s ≡ store_length → length m ≡ 8 → place_for s m ≡ Some e → (n : List ℕ) → (m ≡ n → ⊥) → (n ≡ no_name → ⊥) → name_at s e ≡ n → ⊥
 place-named-or-empty s m e ls lm f n ne un g = go (first_named s m) refl
   where
     go : (o : Option ℕ) → first_named s m ≡ o → ⊥
-    go none q = un (sym g ∙ (earliest-of s ls no_name no-name-length e (sym (place-new s m q) ∙ f)).named)
-    go (some k) q = let r : some k ≡ some e = sym (place-named s m k q) ∙ f in ne (sym (earliest-of s ls m lm e (q ∙ r)).named ∙ g)
+    go None q = un (sym g ∙ (earliest-of s ls no_name no-name-length e (sym (place-new s m q) ∙ f)).named)
+    go (Some k) q = let r : Some k ≡ Some e = sym (place-named s m k q) ∙ f in ne (sym (earliest-of s ls m lm e (q ∙ r)).named ∙ g)
 
 pub save_keeps_others : SaveKeepsOthers
 save_keeps_others s m b n c ne = save-cases s m b (λ x. recall_of x.store n c ≡ recall_of s n c)

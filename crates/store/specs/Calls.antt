@@ -1,6 +1,5 @@
 -- Save, recall and drop, for any bytes and any numbers: the answer and what is left (02, No. 7). A refused call leaves everything as it was.
-use Rattle.std.specs.Prelude.{Bool, not, List, ℕ, eqb, length}
-use Rattle.std.proofs.Math.Option.{Option, none, some}
+use Rattle.std.specs.Prelude.{Bool, not, List, ℕ, eqb, length, Option, None, Some}
 use Rattle.general.specs.Parts.{over}
 use Rattle.general.specs.Tests.{◌and◌}
 use Rattle.rules.specs.declared.Verdict.{Verdict}
@@ -28,9 +27,9 @@ pub data Meant : Type 0 where
 
 -- what was turned down before the look-up; else the entry that was found; else, where none was, this cause
 unfoldable pub meant_by : Option Answer → Option ℕ → Verdict → Meant
-meant_by (some a) found cause = refused a
-meant_by none none cause = refused (told cause)
-meant_by none (some e) cause = entry e
+meant_by (Some a) found cause = refused a
+meant_by None None cause = refused (told cause)
+meant_by None (Some e) cause = entry e
 
 -- 12: a new name and no empty entry
 unfoldable pub save_means : List ℕ → List ℕ → List ℕ → Meant

@@ -1,7 +1,7 @@
 -- Years that are all accepted are listed as their bodies are, one after another. Assumes nothing.
+use Rattle.std.specs.Prelude.{Option, None}
 use mathlib.Core.Bool.{Bool, true, false, cond}
 use mathlib.Core.List.{List, [], ◌∷◌, ◌++◌, append-nil}
-use mathlib.Core.Option.{Option, none}
 use mathlib.Core.Path.{◌≡◌, refl, sym, ap, ◌∙◌, subst}
 use Prim.Native.Nat.{ℕ, zero, suc, ◌+◌, ◌*◌, ◌≤◌, ◌<◌}
 use native.Mathlib.Nat.{mul-zero}
@@ -78,18 +78,18 @@ walked_none : (b : Basin) (s : Standing) (left : List ℕ) → month_at s.board 
 unfolding texts_of sheets_listed
 walked_none b s left e = record { steps = []; walk = refl; told = refl; october = e }
 
-walked_more : (b : Basin) (s : Standing) (left : List ℕ) (r : List ℕ) (rs : List (List ℕ)) (end : List ℕ) → sheet_bytes b ≤ length left → sheet_step none b s r ≡ step_of b s (take (sheet_bytes b) left)
-    → Walked b (sheet_step none b s r).standing (drop (sheet_bytes b) left) rs end → Walked b s left (r ∷ rs) end
+walked_more : (b : Basin) (s : Standing) (left : List ℕ) (r : List ℕ) (rs : List (List ℕ)) (end : List ℕ) → sheet_bytes b ≤ length left → sheet_step None b s r ≡ step_of b s (take (sheet_bytes b) left)
+    → Walked b (sheet_step None b s r).standing (drop (sheet_bytes b) left) rs end → Walked b s left (r ∷ rs) end
 unfolding texts_of sheets_listed sheet_step
 walked_more b s left r rs end h e w = record {
-  steps = sheet_step none b s r ∷ w.steps;
+  steps = sheet_step None b s r ∷ w.steps;
   walk = (record { going = refl; whole = λ _. h; meets = e }, w.walk);
-  told = ap (λ (l : List ℕ). (sheet_step none b s r).text ++ l) w.told;
+  told = ap (λ (l : List ℕ). (sheet_step None b s r).text ++ l) w.told;
   october = w.october;
 }
 
 module _ (b : Basin) (body : List ℕ) (row : 0 < rows b) (whole : length body ≡ 12 * sheet_bytes b) where
-  walk-year : (j k : ℕ) (s : Standing) → k + j ≡ 12 → month_at s.board ≡ in_year k → first_over (drop k (sheets_of b body)) ≡ none
+  walk-year : (j k : ℕ) (s : Standing) → k + j ≡ 12 → month_at s.board ≡ in_year k → first_over (drop k (sheets_of b body)) ≡ None
       → Walked b s (from_sheet b body k) (drop k (sheets_of b body)) (from_sheet b body 12)
   unfolding sheet_step
   walk-year zero k s e m n =
@@ -100,7 +100,7 @@ module _ (b : Basin) (body : List ℕ) (row : 0 < rows b) (whole : length body �
       let h : k < 12 = omega arith in
       let clear = none_from (rows b) body k h n in
       let r : List ℕ = sheet_at (rows b) body k in
-      let o : Step = sheet_step none b s r in
+      let o : Step = sheet_step None b s r in
       let later = walk-year j (k + 1) o.standing (omega arith) (month-after b r s.board ∙ ap next_month m ∙ next-in-year k h) clear.1 in
       subst (λ (rs : List (List ℕ)). Walked b s (from_sheet b body k) rs (from_sheet b body 12)) (sym (sheets-from (rows b) body k h))
       (walked_more b s (from_sheet b body k) r (drop (k + 1) (sheets_of b body)) (from_sheet b body 12) (room k h) (sym (month-made b body row whole k s h clear.0))
@@ -110,13 +110,13 @@ module _ (b : Basin) (body : List ℕ) (row : 0 < rows b) (whole : length body �
       room i l = omega (arith, step-within (sheet_bytes b) 12 i l, length-drop (sheet_bytes b * i) body, whole)
 
   -- all twelve sheets
-  walk-body : (s : Standing) → month_at s.board ≡ 0 → first_over (sheets_of b body) ≡ none → Walked b s body (sheets_of b body) []
+  walk-body : (s : Standing) → month_at s.board ≡ 0 → first_over (sheets_of b body) ≡ None → Walked b s body (sheets_of b body) []
   walk-body s m n =
       let none_left : from_sheet b body 12 ≡ [] = drop_of_length-le body {i = sheet_bytes b * 12} (omega (arith, whole)) in
       let all : from_sheet b body 0 ≡ body = ap (λ (x : ℕ). drop x body) (mul-zero (sheet_bytes b)) in
       subst (λ (l : List ℕ). Walked b s l (sheets_of b body) []) all (subst (λ (l : List ℕ). Walked b s (from_sheet b body 0) (sheets_of b body) l) none_left (walk-year 12 0 s (omega arith) m n))
 
-module _ (f book : List ℕ) (s : Standing) (y : ℕ) (e : year_refusal f book s y ≡ none) where
+module _ (f book : List ℕ) (s : Standing) (y : ℕ) (e : year_refusal f book s y ≡ None) where
   abbrev listed : Step
   listed = sheets_listed (basin_of f) s (sheets_left f book y s.board)
 

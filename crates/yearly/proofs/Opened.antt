@@ -1,7 +1,7 @@
 -- A year of a runoff book in a listing. Assumes nothing.
+use Rattle.std.specs.Prelude.{Option, None, Some}
 use mathlib.Core.Bool.{true}
 use mathlib.Core.List.{List, [], append-nil}
-use mathlib.Core.Option.{Option, none, some}
 use mathlib.Core.Path.{◌≡◌, refl, sym, ap, ◌∙◌}
 use Prim.Native.Nat.{ℕ, ◌-◌, ◌*◌, ◌≤◌, ◌<◌}
 use native.Mathlib.Nat.{mul-le-mul}
@@ -66,8 +66,8 @@ module _ (f book : List ℕ) (y : ℕ) (p : Progress) (board out : List ℕ) whe
 -- no month is listed by it
 opening-months : (v : Option Answer) (s : Standing) → (year_opening v s).standing.months ≡ s.months
 unfolding year_opening
-opening-months none s = refl
-opening-months (some a) s = refl
+opening-months None s = refl
+opening-months (Some a) s = refl
 
 pub opened-months : (f book : List ℕ) (y : ℕ) (p : Progress) (board out out' : List ℕ) (r : Progress) → YearOpened f book y p board out out' r → r.months ≡ p.months
 opened-months f book y p board out out' r w = ap (λ (x : Step). x.standing.months) w.equation ∙ opening-months (year_refusal f book (standing p board) y) (standing p board)

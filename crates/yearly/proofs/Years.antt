@@ -1,7 +1,7 @@
 -- The texts of a program's steps, year by year, are the listing of the years. Assumes nothing.
+use Rattle.std.specs.Prelude.{Option, None, Some}
 use mathlib.Core.Bool.{Bool, true, false}
 use mathlib.Core.List.{List, [], ◌∷◌, ◌++◌}
-use mathlib.Core.Option.{Option, none, some}
 use mathlib.Core.Path.{◌≡◌, refl, sym, ap, ◌∙◌, subst}
 use Prim.Native.Nat.{ℕ, ◌+◌, ◌*◌, ◌≤◌, ◌<◌}
 use lib.Dec.{ltb}
@@ -74,14 +74,14 @@ module _ (b : Basin) (body : List ℕ) (row : 0 < rows b) (whole : length body �
   next k = drop-drop (sheet_bytes b) (sheet_bytes b * k) body ∙ ap (λ (x : ℕ). drop x body) (sym (mul-suc (sheet_bytes b) k)) ∙ ap (from_sheet b body) (sym (add-one k))
 
   -- the step that sheet k makes, where it is within its limit
-  pub month-made : (k : ℕ) (s : Standing) → k < 12 → over_limit (sheet_at (rows b) body k) ≡ none → step_of b s (take (sheet_bytes b) (from_sheet b body k)) ≡ sheet_step none b s (sheet_at (rows b) body k)
+  pub month-made : (k : ℕ) (s : Standing) → k < 12 → over_limit (sheet_at (rows b) body k) ≡ None → step_of b s (take (sheet_bytes b) (from_sheet b body k)) ≡ sheet_step None b s (sheet_at (rows b) body k)
   unfolding over_answer
   month-made k s h e =
       step-some b s (take (sheet_bytes b) (from_sheet b body k)) (omega (arith, sheet-long k h, row))
       ∙ ap (λ (v : Option Answer). sheet_step v b s (sheet_at (rows b) body k)) (whole-refusal b (take (sheet_bytes b) (from_sheet b body k)) (sheet-long k h) ∙ ap over_answer e)
 
   -- steps from sheet k on, each lent a whole sheet, until none is left
-  walked : (os : List Step) (k : ℕ) (s : Standing) (to : Place) → first_over (drop k (sheets_of b body)) ≡ none → Walk b false (record { standing = s; left = from_sheet b body k; more = true }) os to
+  walked : (os : List Step) (k : ℕ) (s : Standing) (to : Place) → first_over (drop k (sheets_of b body)) ≡ None → Walk b false (record { standing = s; left = from_sheet b body k; more = true }) os to
       → length to.left < sheet_bytes b → record { text = texts_of os; standing = to.standing; more = to.more } ≡ sheets_listed b s (drop k (sheets_of b body))
   unfolding texts_of sheets_listed sheet_step
   walked [] k s to e w l =
@@ -91,7 +91,7 @@ module _ (b : Basin) (body : List ℕ) (row : 0 < rows b) (whole : length body �
       let h : k < 12 = in_body k (w.0.whole refl) in
       let none_over = none_from (rows b) body k h e in
       let r : List ℕ = sheet_at (rows b) body k in
-      let m : Step = sheet_step none b s r in
+      let m : Step = sheet_step None b s r in
       let eo : o ≡ m = w.0.meets ∙ month-made k s h none_over.0 in
       let ih = walked os (k + 1) m.standing to none_over.1 (subst (λ (p : Place). Walk b false p os to) (λ z. record { standing = (eo z).standing; left = next k z; more = (eo z).more }) w.1) l in
       (λ z. record { text = (eo z).text ++ (ih z).text; standing = (ih z).standing; more = (ih z).more })
@@ -101,11 +101,11 @@ module _ (b : Basin) (body : List ℕ) (row : 0 < rows b) (whole : length body �
 -- ---- a year
 
 module _ (f book : List ℕ) (s : Standing) (y : ℕ) where
-  pub year-found : year_refusal f book s y ≡ none → Found f book y
+  pub year-found : year_refusal f book s y ≡ None → Found f book y
   unfolding run_refusal
   year-found e = found_none f book y (or-first (lookup_refusal f book y) _ e)
 
-  year-listed : year_refusal f book s y ≡ none → (o : Step) → SheetsCalled (basin_of f) s (part_left f book y s.board) o → o ≡ sheets_listed (basin_of f) s (sheets_left f book y s.board)
+  year-listed : year_refusal f book s y ≡ None → (o : Step) → SheetsCalled (basin_of f) s (part_left f book y s.board) o → o ≡ sheets_listed (basin_of f) s (sheets_left f book y s.board)
   unfolding year_sheets
   year-listed e o c =
       c.told
@@ -114,8 +114,8 @@ module _ (f book : List ℕ) (s : Standing) (y : ℕ) where
 
   year-told : (v : Option Answer) → year_refusal f book s y ≡ v → (o : Step) → YearMade v (basin_of f) s (part_left f book y s.board) o → o ≡ year_step v (basin_of f) s (sheets_left f book y s.board)
   unfolding year_step
-  year-told none e o m = year-listed e o m
-  year-told (some a) e o m = m
+  year-told None e o m = year-listed e o m
+  year-told (Some a) e o m = m
 
   year-is : (o : Step) → YearMade (year_refusal f book s y) (basin_of f) s (part_left f book y s.board) o → o ≡ next_year f book s y
   unfolding next_year

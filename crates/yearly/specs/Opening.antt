@@ -1,6 +1,5 @@
 -- What the start of a year of a runoff book promises in a listing.
-use Rattle.std.specs.Prelude.{true, false, List, [], ◌≡◌, ℕ, ◌+◌, ◌≤◌, length}
-use Rattle.std.proofs.Math.Option.{Option, none, some}
+use Rattle.std.specs.Prelude.{true, false, List, [], ◌≡◌, ℕ, ◌+◌, ◌≤◌, length, Option, None, Some}
 use Rattle.rules.specs.Answers.{Answer}
 use Rattle.years.specs.Runs.{CanJudge}
 use Rattle.lines.specs.Putting.{most_text, Put}
@@ -12,8 +11,8 @@ use Rattle.lister.specs.Lister.{standing}
 
 -- A year that is turned down ends the listing with its refusal. Of any other nothing is put yet: its sheets follow.
 unfoldable pub year_opening : Option Answer → Standing → Step
-year_opening none s = record { text = []; standing = s; more = true }
-year_opening (some a) s = record { text = refusal_line a; standing = s; more = false }
+year_opening None s = record { text = []; standing = s; more = true }
+year_opening (Some a) s = record { text = refusal_line a; standing = s; more = false }
 
 -- a listing that goes on, with room for a refusal
 pub record CanOpenYear (f : List ℕ) (p : Progress) (board out : List ℕ) : Type 0 where

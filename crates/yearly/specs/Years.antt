@@ -1,7 +1,6 @@
 -- The listing of picked years of a runoff book (02, No. 4): a basin file, a book and years. Each year is run from where the listing stands, as a year run is.
 -- With it the steps of a program that lists so, and that their texts are this listing; and years as a file of months. proofs/Years and proofs/Bodies prove it.
-use Rattle.std.specs.Prelude.{Bool, true, false, List, [], ◌∷◌, ◌++◌, ◌≡◌, ℕ, ◌*◌, ◌<◌, length, drop, replicate}
-use Rattle.std.proofs.Math.Option.{Option, none, some}
+use Rattle.std.specs.Prelude.{Bool, true, false, List, [], ◌∷◌, ◌++◌, ◌≡◌, ℕ, ◌*◌, ◌<◌, length, drop, replicate, Option, None, Some}
 use Rattle.general.specs.Tables.{All}
 use Rattle.places.specs.Board.{month_at}
 use Rattle.rules.specs.Basin.{Basin}
@@ -23,14 +22,14 @@ use Rattle.listing.specs.Steps.{Place, texts_of, Call, Calls, steps_of}
 unfoldable pub sheets_listed : Basin → Standing → List (List ℕ) → Step
 sheets_listed b s [] = record { text = []; standing = s; more = true }
 sheets_listed b s (r ∷ rs) =
-    let first : Step = sheet_step none b s r in
+    let first : Step = sheet_step None b s r in
     let later : Step = sheets_listed b first.standing rs in
     record { text = first.text ++ later.text; standing = later.standing; more = true }
 
 -- A year that is turned down ends the run with its refusal, and none of its months is listed. Any other adds its months, and the run goes on.
 unfoldable pub year_step : Option Answer → Basin → Standing → List (List ℕ) → Step
-year_step (some a) b s rs = record { text = refusal_line a; standing = s; more = false }
-year_step none b s rs = sheets_listed b s rs
+year_step (Some a) b s rs = record { text = refusal_line a; standing = s; more = false }
+year_step None b s rs = sheets_listed b s rs
 
 -- a list that is just long enough for twelve reports
 abbrev pub least_list : Basin → List ℕ
@@ -55,8 +54,8 @@ years_text f book s (y ∷ ys) =
 
 -- A basin that is turned down ends the listing with its refusal, whatever the years.
 unfoldable pub years_after_header : Option Answer → List ℕ → List ℕ → List ℕ → List ℕ
-years_after_header (some a) f book ys = refusal_line a
-years_after_header none f book ys = years_text f book (begin (basin_of f)) ys
+years_after_header (Some a) f book ys = refusal_line a
+years_after_header None f book ys = years_text f book (begin (basin_of f)) ys
 
 -- The listing: the header, then the basin's refusal or the months of the years.
 unfoldable pub years_listing : List ℕ → List ℕ → List ℕ → List ℕ
@@ -76,8 +75,8 @@ pub record SheetsCalled (b : Basin) (s : Standing) (part : List ℕ) (o : Step) 
 
 -- What a program makes of a year, by what the run of the year would turn down.
 abbrev pub YearMade : Option Answer → Basin → Standing → List ℕ → Step → Type 0
-YearMade (some a) b s part o = o ≡ record { text = refusal_line a; standing = s; more = false }
-YearMade none b s part o = SheetsCalled b s part o
+YearMade (Some a) b s part o = o ≡ record { text = refusal_line a; standing = s; more = false }
+YearMade None b s part o = SheetsCalled b s part o
 
 -- the body of a year from the month on at which the board stands
 abbrev pub part_left : List ℕ → List ℕ → ℕ → List ℕ → List ℕ
@@ -102,14 +101,14 @@ YearsList = (f book ys : List ℕ) → check_of f ≡ Accepted → (os : List St
 
 -- Of a file that is turned down: the header and the refusal are.
 abbrev pub RefusalListsYears : Type 0
-RefusalListsYears = (f book ys : List ℕ) (a : Answer) → file_refusal f ≡ some a → header ++ refusal_line a ≡ years_listing f book ys
+RefusalListsYears = (f book ys : List ℕ) (a : Answer) → file_refusal f ≡ Some a → header ++ refusal_line a ≡ years_listing f book ys
 
 -- ---- years as a file of months
 
 -- each year is accepted where the one before left the run
 abbrev pub YearsAccepted : List ℕ → List ℕ → Standing → List ℕ → Type 0
 YearsAccepted f book s [] = Unit {0}
-YearsAccepted f book s (y ∷ ys) = (year_refusal f book s y ≡ none) × YearsAccepted f book (next_year f book s y).standing ys
+YearsAccepted f book s (y ∷ ys) = (year_refusal f book s y ≡ None) × YearsAccepted f book (next_year f book s y).standing ys
 
 -- the bodies of the years, one after another
 unfoldable pub bodies_of : List ℕ → List ℕ → List ℕ → List ℕ

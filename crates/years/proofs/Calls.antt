@@ -1,9 +1,9 @@
 -- The month calls of a year: on an accepted file and a possible board, with room for their reports, they are refused just where a sheet is over its limit, and
 -- where none is they leave what the months leave. Assumes nothing.
+use Rattle.std.specs.Prelude.{Option, None, Some}
 use mathlib.Core.Path.{◌≡◌, refl, ap, ◌∙◌}
 use mathlib.Core.Bool.{true}
 use mathlib.Core.List.{List, [], ◌∷◌, ◌++◌}
-use mathlib.Core.Option.{Option, none, some}
 use Prim.Native.Nat.{ℕ, ◌*◌, ◌≤◌}
 use native.Mathlib.Nat.{suc-mul}
 use native.Mathlib.Omega.{arith}
@@ -36,13 +36,13 @@ all-fit b r bd rp er ep eb = rw (er, eqb_same (rows b), leb_yes (report_length b
 
 settled-size : (v : Option Answer) (b : Basin) (r bd rp : List ℕ) → length bd ≡ board_length → length (month_settled v b r bd rp).board ≡ board_length
 unfolding month_settled
-settled-size none b r bd rp e = after-size b r bd
-settled-size (some a) b r bd rp e = e
+settled-size None b r bd rp e = after-size b r bd
+settled-size (Some a) b r bd rp e = e
 
-settled-month : (b : Basin) (r bd rp : List ℕ) (v : Option Answer) → v ≡ none → ((month_settled v b r bd rp).board ≡ board_after b r bd) × ((month_settled v b r bd rp).report ≡ report_of b (run_of b r bd) rp)
+settled-month : (b : Basin) (r bd rp : List ℕ) (v : Option Answer) → v ≡ None → ((month_settled v b r bd rp).board ≡ board_after b r bd) × ((month_settled v b r bd rp).report ≡ report_of b (run_of b r bd) rp)
 unfolding month_settled
-settled-month b r bd rp none e = (refl, refl)
-settled-month b r bd rp (some a) e = absurd (let z : ◌≡◌ {A = ℕ} 0 1 = cc in omega arith)
+settled-month b r bd rp None e = (refl, refl)
+settled-month b r bd rp (Some a) e = absurd (let z : ◌≡◌ {A = ℕ} 0 1 = cc in omega arith)
 
 module _ (f : List ℕ) (acc : check_of f ≡ AcceptedFile) where
   abbrev basin : Basin
@@ -74,7 +74,7 @@ module _ (f : List ℕ) (acc : check_of f ≡ AcceptedFile) where
     pub next-can : possible basin (month_of f r bd rp).board ≡ true
     next-can = still-possible basin (accepted-facts f acc) r bd rp h.can (month_of f r bd rp) is-settled
 
-    module _ (e : over_answer (over_limit r) ≡ none) where
+    module _ (e : over_answer (over_limit r) ≡ None) where
       pub next-board : (month_of f r bd rp).board ≡ board_after basin r bd
       next-board = ap (λ (o : Outcome). o.board) is-settled ∙ (settled-month basin r bd rp (over_answer (over_limit r)) e).0
 
@@ -116,14 +116,14 @@ module _ (f : List ℕ) (acc : check_of f ≡ AcceptedFile) where
       (refused_over rs (month_of f r bd (take (report_length basin) old)).board (drop (report_length basin) old) (then r rs bd old c) z)
 
   -- where none is they leave the months' board and reports
-  pub made-months : (rs : List (List ℕ)) (bd old : List ℕ) → CanCall rs bd old → first_over rs ≡ none
+  pub made-months : (rs : List (List ℕ)) (bd old : List ℕ) → CanCall rs bd old → first_over rs ≡ None
       → ((calls_made f rs bd old).board ≡ boards_after basin rs bd) × ((calls_made f rs bd old).reports ≡ reports_of basin rs bd old)
   unfolding calls_made first_over boards_after reports_of
   made-months [] bd old c e = (refl, refl)
   made-months (r ∷ rs) bd old c e =
       let rp : List ℕ = take (report_length basin) old in
       let bd' : List ℕ = (month_of f r bd rp).board in
-      let first : over_answer (over_limit r) ≡ none = or-first (over_answer (over_limit r)) (first_over rs) e in
+      let first : over_answer (over_limit r) ≡ None = or-first (over_answer (over_limit r)) (first_over rs) e in
       let eb : bd' ≡ board_after basin r bd = next-board r bd rp (lent r rs bd old c) first in
       let er : (month_of f r bd rp).report ≡ report_of basin (run_of basin r bd) rp = next-report r bd rp (lent r rs bd old c) first in
       let later = made-months rs bd' (drop (report_length basin) old) (then r rs bd old c) (or-second (over_answer (over_limit r)) (first_over rs) e) in

@@ -1,6 +1,6 @@
 -- The refusal of a year run has a number. Assumes nothing.
+use Rattle.std.specs.Prelude.{Option}
 use mathlib.Core.List.{List, [], ◌∷◌}
-use mathlib.Core.Option.{Option}
 use Prim.Native.Nat.{ℕ}
 use lib.ListN.{take, drop}
 use Rattle.rules.specs.Answers.{Answer, or_else}

@@ -1,7 +1,7 @@
 -- Month after month of a year, each report on its own part of the list. Assumes nothing.
+use Rattle.std.specs.Prelude.{None}
 use mathlib.Core.Path.{◌≡◌, refl, sym, ap, ◌∙◌, subst}
 use mathlib.Core.Bool.{true}
-use mathlib.Core.Option.{none}
 use mathlib.Core.List.{List, [], ◌∷◌, ◌++◌, append_assoc}
 use Prim.Native.Nat.{ℕ, suc, ◌+◌, ◌-◌, ◌*◌, ◌≤◌, ◌<◌}
 use native.Mathlib.Nat.{mul-le-mul, zero-mul, suc-mul}
@@ -91,7 +91,7 @@ pub record Going (b : Basin) (n : ℕ) (body : List ℕ) (first told : ℕ) (bd�
   pub long : length old ≡ length old₀
   pub size : length bd ≡ board_length
   pub can : possible b bd ≡ true
-  pub none_over : first_over (drop k (sheets_in n body)) ≡ none
+  pub none_over : first_over (drop k (sheets_in n body)) ≡ None
   pub board-left : boards_after b (drop k (sheets_in n body)) bd ≡ boards_after b (drop first (sheets_in n body)) bd₀
   pub reports_left : take at old ++ reports_of b (drop k (sheets_in n body)) bd (drop at old) ≡ reports_of b (drop first (sheets_in n body)) bd₀ old₀
 

@@ -1,8 +1,8 @@
 -- From the months of a body to the whole run: what is turned down, and what is left. Assumes nothing.
+use Rattle.std.specs.Prelude.{Option, None, Some}
 use mathlib.Core.Path.{◌≡◌, refl, sym, ap, ◌∙◌, subst}
 use mathlib.Core.Bool.{Bool, true}
 use mathlib.Core.List.{List}
-use mathlib.Core.Option.{Option, none, some}
 use Prim.Native.Nat.{ℕ, ◌-◌, ◌*◌, ◌/◌, ◌≤◌, ◌<◌}
 use native.Mathlib.Nat.{mul-le-mul}
 use native.Mathlib.Omega.{arith}
@@ -38,20 +38,20 @@ use Rattle.years.proofs.Calls.{CanCall, refused_over, made-months}
 
 -- ---- a run settled
 
-over-is : (v : Option Answer) (k : ℕ) (x : Made) (bd old : List ℕ) (a : Answer) → v ≡ some a → run_settled v k x bd old ≡ record { answer = a; board = bd; report = old }
+over-is : (v : Option Answer) (k : ℕ) (x : Made) (bd old : List ℕ) (a : Answer) → v ≡ Some a → run_settled v k x bd old ≡ record { answer = a; board = bd; report = old }
 unfolding run_settled
 over-is v k x bd old a e = rw e
 
-ran-is : (v : Option Answer) (x : Made) (bd old : List ℕ) {k l : ℕ} {bd' old' : List ℕ} → v ≡ none → k ≡ l → bd' ≡ x.board → old' ≡ x.reports
+ran-is : (v : Option Answer) (x : Made) (bd old : List ℕ) {k l : ℕ} {bd' old' : List ℕ} → v ≡ None → k ≡ l → bd' ≡ x.board → old' ≡ x.reports
     → run_settled v k x bd old ≡ record { answer = record { number = 0; place = l }; board = bd'; report = old' }
 unfolding run_settled run_answer
 ran-is v x bd old e n eb eo = rw e (λ z. record { answer = record { number = 0; place = n z }; board = sym eb z; report = sym eo z })
 
 -- of what the calls leave only an accepted run tells
-same-made : (v : Option Answer) (k : ℕ) (x y : Made) (bd old : List ℕ) → (v ≡ none → (x.board ≡ y.board) × (x.reports ≡ y.reports)) → run_settled v k x bd old ≡ run_settled v k y bd old
+same-made : (v : Option Answer) (k : ℕ) (x y : Made) (bd old : List ℕ) → (v ≡ None → (x.board ≡ y.board) × (x.reports ≡ y.reports)) → run_settled v k x bd old ≡ run_settled v k y bd old
 unfolding run_settled
-same-made none k x y bd old h = let q = h refl in λ z. record { answer = run_answer none k; board = q.0 z; report = q.1 z }
-same-made (some a) k x y bd old h = refl
+same-made None k x y bd old h = let q = h refl in λ z. record { answer = run_answer None k; board = q.0 z; report = q.1 z }
+same-made (Some a) k x y bd old h = refl
 
 -- ---- the months from the board's on
 
@@ -76,7 +76,7 @@ module _ (st rs ps ri body : List ℕ) (told : ℕ) (runoff bd old : List ℕ) (
     over-told n = at-month (sym (over-is (first_over from) (length from) (made_of b from bd old) bd old a (settled-some (first_over from) a ea n)))
 
     module _ (n : a.number ≡ 0) where
-      none_over : first_over from ≡ none
+      none_over : first_over from ≡ None
       none_over = clear_first from (ap (λ (x : Answer). x.number) (sym ea) ∙ n)
 
       pub can-rest : (runoff' : List ℕ) → length runoff' ≡ length runoff → CanRest st rs ps ri body m told runoff' bd old
@@ -199,17 +199,17 @@ module _ (f body bd old : List ℕ) where
 -- ---- the year
 
 module _ (f k : List ℕ) (y : ℕ) (bd old : List ℕ) where
-  pub year-refused : (a : Answer) → lookup_refusal f k y ≡ some a → YearMeets f k y bd old (record { answer = a; board = bd; report = old })
+  pub year-refused : (a : Answer) → lookup_refusal f k y ≡ Some a → YearMeets f k y bd old (record { answer = a; board = bd; report = old })
   unfolding year_of run_refusal
   year-refused a e = sym (over-is (run_refusal f k y bd old) (length (sheets_left f k y bd)) (year_made f k y bd old) bd old a
       (or_some (lookup_refusal f k y) (or_else (lent_refusal f (run_fits (basin_of f) bd old) bd) (year_made f k y bd old).refused) a e))
 
-  run-body : lookup_refusal f k y ≡ none → run_refusal f k y bd old ≡ body_refusal f (year_sheets f k y) bd old
+  run-body : lookup_refusal f k y ≡ None → run_refusal f k y bd old ≡ body_refusal f (year_sheets f k y) bd old
   unfolding run_refusal body_refusal
   run-body e = ap (λ (v : Option Answer). or_else v (body_refusal f (year_sheets f k y) bd old)) e ∙ or-none (body_refusal f (year_sheets f k y) bd old)
 
   -- the run of a body that is the year's
-  pub year-made : (body : List ℕ) (o : Outcome) → body ≡ year_part f k y → lookup_refusal f k y ≡ none → BodyMeets f (sheets_in (rows (basin_of f)) body) bd old o → YearMeets f k y bd old o
+  pub year-made : (body : List ℕ) (o : Outcome) → body ≡ year_part f k y → lookup_refusal f k y ≡ None → BodyMeets f (sheets_in (rows (basin_of f)) body) bd old o → YearMeets f k y bd old o
   unfolding year_of year_sheets
   year-made body o e n m =
       subst (λ (x : List ℕ). BodyMeets f (sheets_in (rows (basin_of f)) x) bd old o) e m
@@ -217,7 +217,7 @@ module _ (f k : List ℕ) (y : ℕ) (bd old : List ℕ) where
 
   -- ---- judged without a run, on an accepted file and a possible board, for a list that is long enough
 
-  pub judged-missing : (a : Answer) → lookup_refusal f k y ≡ some a → a ≡ settled (run_refusal f k y bd old)
+  pub judged-missing : (a : Answer) → lookup_refusal f k y ≡ Some a → a ≡ settled (run_refusal f k y bd old)
   unfolding run_refusal settled
   judged-missing a e = sym (ap settled (or_some (lookup_refusal f k y) (or_else (lent_refusal f (run_fits (basin_of f) bd old) bd) (year_made f k y bd old).refused) a e))
 
@@ -226,7 +226,7 @@ module _ (f k : List ℕ) (y : ℕ) (bd old : List ℕ) where
     unfolding run_fits ◌and◌
     judge-clear = record { file-ok = j.accepted; lists-ok = rw (j.size, room); board-ok = j.can }
 
-    pub judged-found : {n m : ℕ} (body : List ℕ) (a : Answer) → body ≡ year_part f k y → lookup_refusal f k y ≡ none → n ≡ rows (basin_of f) → m ≡ month_at bd
+    pub judged-found : {n m : ℕ} (body : List ℕ) (a : Answer) → body ≡ year_part f k y → lookup_refusal f k y ≡ None → n ≡ rows (basin_of f) → m ≡ month_at bd
         → a ≡ settled (first_over (drop m (sheets_in n body))) → a ≡ settled (run_refusal f k y bd old)
     unfolding year_sheets
     judged-found {n} {m} body a e none_here en em h =

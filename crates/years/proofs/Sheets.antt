@@ -1,7 +1,7 @@
 -- The sheets of a year's body, and the first of them that is over its limit. Assumes nothing.
+use Rattle.std.specs.Prelude.{Option, None, Some}
 use mathlib.Core.Path.{◌≡◌, refl, sym, ap, ◌∙◌}
 use mathlib.Core.List.{List, [], ◌∷◌}
-use mathlib.Core.Option.{Option, none, some}
 use Prim.Native.Nat.{ℕ, zero, suc, ◌+◌, ◌-◌, ◌*◌, ◌≤◌, ◌<◌}
 use native.Mathlib.Numerals.{add-one}
 use native.Mathlib.Omega.{arith}
@@ -38,10 +38,10 @@ sheet-part n body k =
     let e : sheet_size n * k + sheet_size n - sheet_size n * k ≡ sheet_size n = omega arith in
     ap (λ (x : ℕ). sheet_of n (take x (drop (sheet_size n * k) body))) e
 
-over_none : (o : Option ℕ) → over_answer o ≡ none → o ≡ none
+over_none : (o : Option ℕ) → over_answer o ≡ None → o ≡ None
 unfolding over_answer
-over_none none e = refl
-over_none (some i) e = absurd (let z : ◌≡◌ {A = ℕ} 0 1 = cc in omega arith)
+over_none None e = refl
+over_none (Some i) e = absurd (let z : ◌≡◌ {A = ℕ} 0 1 = cc in omega arith)
 
 all_drop : {A : Type 0} (P : A → Type 0) (k : ℕ) (l : List A) → All P l → All P (drop k l)
 all_drop P zero l h = h
@@ -93,18 +93,18 @@ module _ (n : ℕ) (body : List ℕ) where
   over-end k h = sym (ap (λ (x : List (List ℕ)). settled (first_over x)) (sheets-end k h))
 
   -- none over from k on: none in sheet k, none after it
-  pub none_from : (k : ℕ) → k < 12 → over_in k ≡ none → (over_limit (sheet_at n body k) ≡ none) × (over_in (k + 1) ≡ none)
+  pub none_from : (k : ℕ) → k < 12 → over_in k ≡ None → (over_limit (sheet_at n body k) ≡ None) × (over_in (k + 1) ≡ None)
   none_from k h e =
-      let both : or_else (over_at k) (over_in (k + 1)) ≡ none = sym (over-from k h) ∙ e in
+      let both : or_else (over_at k) (over_in (k + 1)) ≡ None = sym (over-from k h) ∙ e in
       (over_none (over_limit (sheet_at n body k)) (or-first (over_at k) (over_in (k + 1)) both), or-second (over_at k) (over_in (k + 1)) both)
 
-clear_or : (o : Option ℕ) (later : Option Answer) → ((settled later).number ≡ 0 → later ≡ none) → (settled (or_else (over_answer o) later)).number ≡ 0 → or_else (over_answer o) later ≡ none
+clear_or : (o : Option ℕ) (later : Option Answer) → ((settled later).number ≡ 0 → later ≡ None) → (settled (or_else (over_answer o) later)).number ≡ 0 → or_else (over_answer o) later ≡ None
 unfolding or_else over_answer settled
-clear_or none later h q = h q
-clear_or (some i) later h q = absurd (omega (arith, q))
+clear_or None later h q = h q
+clear_or (Some i) later h q = absurd (omega (arith, q))
 
 -- number 0 says that no sheet is over its limit
-pub clear_first : (rs : List (List ℕ)) → (settled (first_over rs)).number ≡ 0 → first_over rs ≡ none
+pub clear_first : (rs : List (List ℕ)) → (settled (first_over rs)).number ≡ 0 → first_over rs ≡ None
 unfolding first_over
 clear_first [] e = refl
 clear_first (r ∷ rs) e = clear_or (over_limit r) (first_over rs) (clear_first rs) e

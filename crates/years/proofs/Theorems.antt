@@ -1,8 +1,8 @@
 -- The theorems of specs/Theorems.antt. Assumes nothing.
+use Rattle.std.specs.Prelude.{Option, None, Some}
 use mathlib.Core.Path.{◌≡◌, refl, sym, ap, ◌∙◌}
 use mathlib.Core.Bool.{true}
 use mathlib.Core.List.{List, [], ◌∷◌}
-use mathlib.Core.Option.{Option, none, some}
 use Prim.Native.Nat.{ℕ, ◌-◌, ◌≤◌}
 use native.Mathlib.Omega.{arith}
 use lib.ListN.{length, length-drop}
@@ -30,33 +30,33 @@ use Rattle.years.proofs.Runs.{can-call}
 -- ---- plain month calls with sheets that are not over their limit
 
 module _ (f : List ℕ) (acc : check_of f ≡ AcceptedFile) (report : List ℕ) (room : report_length (basin_of f) ≤ length report) where
-  months-after : (rs : List (List ℕ)) (bd : List ℕ) → All (λ (r : List ℕ). length r ≡ rows (basin_of f)) rs → length bd ≡ board_length → possible (basin_of f) bd ≡ true → first_over rs ≡ none
+  months-after : (rs : List (List ℕ)) (bd : List ℕ) → All (λ (r : List ℕ). length r ≡ rows (basin_of f)) rs → length bd ≡ board_length → possible (basin_of f) bd ≡ true → first_over rs ≡ None
       → after_months f rs bd report ≡ boards_after (basin_of f) rs bd
   unfolding after_months first_over boards_after
   months-after [] bd w n can e = refl
   months-after (r ∷ rs) bd w n can e =
       let h : Lent f acc r bd report = record { sheet = w.0; size = n; can = can; room = room } in
-      let first : over_answer (over_limit r) ≡ none = or-first (over_answer (over_limit r)) (first_over rs) e in
+      let first : over_answer (over_limit r) ≡ None = or-first (over_answer (over_limit r)) (first_over rs) e in
       let eb : (month_of f r bd report).board ≡ board_after (basin_of f) r bd = next-board f acc r bd report h first in
       months-after rs (month_of f r bd report).board w.1 (next-size f acc r bd report h) (next-can f acc r bd report h) (or-second (over_answer (over_limit r)) (first_over rs) e)
       ∙ ap (boards_after (basin_of f) rs) eb
 
 -- ---- a run that is accepted
 
-settled-board : (v : Option Answer) (k : ℕ) (x : Made) (bd old : List ℕ) → v ≡ none → (run_settled v k x bd old).board ≡ x.board
+settled-board : (v : Option Answer) (k : ℕ) (x : Made) (bd old : List ℕ) → v ≡ None → (run_settled v k x bd old).board ≡ x.board
 unfolding run_settled
-settled-board none k x bd old e = refl
-settled-board (some a) k x bd old e = absurd (let z : ◌≡◌ {A = ℕ} 0 1 = cc in omega arith)
+settled-board None k x bd old e = refl
+settled-board (Some a) k x bd old e = absurd (let z : ◌≡◌ {A = ℕ} 0 1 = cc in omega arith)
 
-nothing_lent : (f : List ℕ) (bd old : List ℕ) → lent_refusal f (run_fits (basin_of f) bd old) bd ≡ none → Clear f (run_fits (basin_of f) bd old) bd
+nothing_lent : (f : List ℕ) (bd old : List ℕ) → lent_refusal f (run_fits (basin_of f) bd old) bd ≡ None → Clear f (run_fits (basin_of f) bd old) bd
 unfolding settled
 nothing_lent f bd old e = lent-clear f (run_fits (basin_of f) bd old) bd accepted (ap settled (sym e)) refl
 
-module _ (f book : List ℕ) (year : ℕ) (bd old : List ℕ) (run : run_refusal f book year bd old ≡ none) where
+module _ (f book : List ℕ) (year : ℕ) (bd old : List ℕ) (run : run_refusal f book year bd old ≡ None) where
   abbrev made : Made
   made = year_made f book year bd old
 
-  beside : or_else (lent_refusal f (run_fits (basin_of f) bd old) bd) made.refused ≡ none
+  beside : or_else (lent_refusal f (run_fits (basin_of f) bd old) bd) made.refused ≡ None
   unfolding run_refusal
   beside = or-second (lookup_refusal f book year) (or_else (lent_refusal f (run_fits (basin_of f) bd old) bd) made.refused) run
 
@@ -67,7 +67,7 @@ module _ (f book : List ℕ) (year : ℕ) (bd old : List ℕ) (run : run_refusal
   unfolding year_sheets
   calls = can-call f (year_part f book year) bd old clear
 
-  pub none_over : first_over (sheets_left f book year bd) ≡ none
+  pub none_over : first_over (sheets_left f book year bd) ≡ None
   none_over = sym (refused_over f clear.file-ok (sheets_left f book year bd) bd old calls) ∙ or-second (lent_refusal f (run_fits (basin_of f) bd old) bd) made.refused beside
 
   run-board : (year_of f book year bd old).board ≡ boards_after (basin_of f) (sheets_left f book year bd) bd

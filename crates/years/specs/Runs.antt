@@ -1,6 +1,5 @@
 -- The steps of a year run on the bodies of a file: what each asks for, and what it leaves.
-use Rattle.std.specs.Prelude.{◌≡◌, true, List, [], ◌∷◌, ◌++◌, ℕ, ◌-◌, ◌*◌, ◌≤◌, ◌<◌, length, take, drop}
-use Rattle.std.proofs.Math.Option.{Option, none}
+use Rattle.std.specs.Prelude.{◌≡◌, true, List, [], ◌∷◌, ◌++◌, ℕ, ◌-◌, ◌*◌, ◌≤◌, ◌<◌, length, take, drop, Option, None}
 use Rattle.places.specs.Board.{board_length, month_at}
 use Rattle.rules.specs.Accepted.{Accepted}
 use Rattle.rules.specs.declared.Verdict.TheVariants.{Accepted as AcceptedFile}
@@ -20,7 +19,7 @@ use Rattle.years.specs.Years.{sheets_in, Made, calls_made, run_fits, run_settled
 
 -- 8: of the first sheet that has a row over its limit
 unfoldable pub first_over : List (List ℕ) → Option Answer
-first_over [] = none
+first_over [] = None
 first_over (r ∷ rs) = or_else (over_answer (over_limit r)) (first_over rs)
 
 -- the board after them, and the list with their reports
@@ -60,14 +59,14 @@ pub record CanYear (st rs ps ri body runoff bd : List ℕ) : Type 0 where
 pub record CanMonth (st rs ps ri body : List ℕ) (k : ℕ) (runoff bd rp : List ℕ) : Type 0 where
   pub year : CanYear st rs ps ri body runoff bd
   pub month : k < 12
-  pub none_over : over_limit (sheet_at (length runoff) body k) ≡ none
+  pub none_over : over_limit (sheet_at (length runoff) body k) ≡ None
   pub room : report_length (bodies st rs ps ri) ≤ length rp
 
 -- month k and those after it: none of their sheets is over its limit, and there is room for their reports
 pub record CanRest (st rs ps ri body : List ℕ) (k told : ℕ) (runoff bd old : List ℕ) : Type 0 where
   pub year : CanYear st rs ps ri body runoff bd
   pub month : k ≤ 12
-  pub none_over : first_over (drop k (sheets_in (length runoff) body)) ≡ none
+  pub none_over : first_over (drop k (sheets_in (length runoff) body)) ≡ None
   pub report : told ≡ report_length (bodies st rs ps ri)
   pub room : (12 - k) * told ≤ length old
 

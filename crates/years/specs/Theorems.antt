@@ -1,6 +1,5 @@
 -- What is proved of year runs beside their contract. proofs/Theorems.antt has the proofs, under the same names in small letters.
-use Rattle.std.specs.Prelude.{◌≡◌, List, [], ◌∷◌, ℕ, ◌-◌, ◌≤◌, length}
-use Rattle.std.proofs.Math.Option.{none}
+use Rattle.std.specs.Prelude.{◌≡◌, List, [], ◌∷◌, ℕ, ◌-◌, ◌≤◌, length, None}
 use Rattle.places.specs.Board.{month_at}
 use Rattle.rules.specs.Tally.{report_length}
 use Rattle.records.specs.Records.{basin_of}
@@ -20,5 +19,5 @@ pub record LikeMonths (f book : List ℕ) (year : ℕ) (board reports report : L
   pub count : length (sheets_left f book year board) ≡ 12 - month_at board
 
 abbrev pub YearOfMonths : Type 0
-YearOfMonths = (f book : List ℕ) (year : ℕ) (board reports report : List ℕ) → run_refusal f book year board reports ≡ none → report_length (basin_of f) ≤ length report
+YearOfMonths = (f book : List ℕ) (year : ℕ) (board reports report : List ℕ) → run_refusal f book year board reports ≡ None → report_length (basin_of f) ≤ length report
     → LikeMonths f book year board reports report

@@ -1,6 +1,5 @@
 -- A year of the runoff book, run on a board (02, No. 4): from the month at which the board stands up to September, all of its month calls or none.
-use Rattle.std.specs.Prelude.{◌≡◌, Bool, List, [], ◌∷◌, ◌++◌, ℕ, length, take, drop}
-use Rattle.std.proofs.Math.Option.{Option, none, some}
+use Rattle.std.specs.Prelude.{◌≡◌, Bool, List, [], ◌∷◌, ◌++◌, ℕ, length, take, drop, Option, None, Some}
 use Rattle.general.specs.Tables.{tab}
 use Rattle.general.specs.Tests.{◌and◌}
 use Rattle.places.specs.Board.{month_at}
@@ -39,7 +38,7 @@ pub record Made : Type 0 where
 -- The first call is lent this board, each next the board that the one before left. Of the list each is lent as much as a report needs, one part after the
 -- other; what lies beyond their parts stays.
 unfoldable pub calls_made : List ℕ → List (List ℕ) → List ℕ → List ℕ → Made
-calls_made f [] board reports = record { refused = none; board = board; reports = reports }
+calls_made f [] board reports = record { refused = None; board = board; reports = reports }
 calls_made f (r ∷ rs) board reports =
     let n : ℕ = report_length (basin_of f) in
     let first : Outcome = month_of f r board (take n reports) in
@@ -69,8 +68,8 @@ run_refusal f book year board reports =
 
 -- An accepted run answers how many calls it made and leaves what they leave; a refused one changes neither board nor list.
 unfoldable pub run_settled : Option Answer → ℕ → Made → List ℕ → List ℕ → Outcome
-run_settled none calls made board reports = record { answer = run_answer none calls; board = made.board; report = made.reports }
-run_settled (some a) calls made board reports = record { answer = a; board = board; report = reports }
+run_settled None calls made board reports = record { answer = run_answer None calls; board = made.board; report = made.reports }
+run_settled (Some a) calls made board reports = record { answer = a; board = board; report = reports }
 
 unfoldable pub year_of : List ℕ → List ℕ → ℕ → List ℕ → List ℕ → Outcome
 year_of f book year board reports =
