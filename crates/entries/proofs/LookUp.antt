@@ -3,29 +3,18 @@ use Rattle.std.specs.Prelude.{Option, None, Some}
 use mathlib.Core.Path.{◌≡◌, refl, sym, ap, ◌∙◌}
 use mathlib.Core.List.{List}
 use Prim.Native.Nat.{ℕ, ◌<◌}
-use native.Mathlib.Omega.{arith}
 use Rattle.general.proofs.Search.{first-within}
-use Rattle.entries.specs.Entries.{entry_count, no_name, is_named, first_named, or_first, place_for, found_of}
-use Rattle.entries.specs.declared.names.Found.{Found}
-use Rattle.entries.specs.declared.names.Found.TheVariants.{Entry, Nothing}
+use Rattle.entries.specs.Entries.{entry_count, no_name, is_named, first_named, or_first, place_for}
 
 -- ---- as the code answers it
 
-found_none : (o : Option ℕ) {f : Found} → f ≡ found_of o → f ≡ Nothing → o ≡ None
-found_none None e g = refl
-found_none (Some k) e g = absurd (let z : ◌≡◌ {A = ℕ} 0 1 = cc in omega arith)
-
-found_some : (o : Option ℕ) {f : Found} {k : ℕ} → f ≡ found_of o → f ≡ Entry k → o ≡ Some k
-found_some None e g = absurd (let z : ◌≡◌ {A = ℕ} 0 1 = cc in omega arith)
-found_some (Some j) e g = cc
-
 -- by a copy m of the name
 module _ (look : List ℕ → Option ℕ) (n : List ℕ) {m : List ℕ} (em : m ≡ n) where
-  pub looked-none : {f : Found} → f ≡ found_of (look m) → f ≡ Nothing → look n ≡ None
-  looked-none e g = found_none (look n) (e ∙ ap (λ (x : List ℕ). found_of (look x)) em) g
+  pub looked-none : {f : Option ℕ} → f ≡ look m → f ≡ None → look n ≡ None
+  looked-none e g = sym (e ∙ ap look em) ∙ g
 
-  pub looked-at : {f : Found} {k : ℕ} → f ≡ found_of (look m) → f ≡ Entry k → look n ≡ Some k
-  looked-at e g = found_some (look n) (e ∙ ap (λ (x : List ℕ). found_of (look x)) em) g
+  pub looked-at : {f : Option ℕ} {k : ℕ} → f ≡ look m → f ≡ Some k → look n ≡ Some k
+  looked-at e g = sym (e ∙ ap look em) ∙ g
 
 module _ (s n : List ℕ) where
   pub named-within : (e : ℕ) → first_named s n ≡ Some e → e < entry_count

@@ -5,8 +5,6 @@ use Rattle.general.specs.Tables.{tab}
 use Rattle.general.specs.Tests.{all_to, first_at}
 use Rattle.numbers.specs.Bytes.{byte_at, le64_at, bytes64}
 use Rattle.places.specs.Board.{board_length}
-use Rattle.entries.specs.declared.names.Found.{Found}
-use Rattle.entries.specs.declared.names.Found.TheVariants.{Entry, Nothing}
 
 -- ---- its places
 
@@ -71,8 +69,3 @@ or_first (Some e) later = Some e
 -- the entry for a board to be saved: the one that has the name already, else the earliest empty one
 unfoldable pub place_for : List ℕ → List ℕ → Option ℕ
 place_for s n = or_first (first_named s n) (first_empty s)
-
--- the same as the code's look-up answers it
-abbrev pub found_of : Option ℕ → Found
-found_of None = Nothing
-found_of (Some e) = Entry e

@@ -1,20 +1,13 @@
 // The four names of a store: compared, looked up and written.
 ghost use Rattle.std.specs.Prelude.{◌≡◌, ◌<◌, length};
 ghost use Rattle.general.specs.Parts.{over};
-ghost use Rattle.entries.specs.Entries.{entry_count, name_length, name_start, store_length, same_name, is_named, first_named, place_for, found_of};
+ghost use Rattle.entries.specs.Entries.{entry_count, name_length, name_start, store_length, same_name, is_named, first_named, place_for};
 
 use numbers::both;
 
 pub const ENTRIES: usize = 4;
 
 pub const NAME_LENGTH: usize = 8;
-
-// The entry that a name looked up leads to, where there is one.
-#[derive(Clone, Copy)]
-pub enum Found {
-    Entry(usize),
-    Nothing,
-}
 
 // A lent name as a value of eight bytes.
 pub fn fixed(name: &[u8]) -> [u8; 8]
@@ -49,27 +42,27 @@ fn is_named(store: &[u8], entry: usize, name: [u8; 8]) -> bool
 }
 
 // The first entry that bears the name; of eight zero bytes, the first empty entry.
-pub fn find(store: &[u8], name: [u8; 8]) -> Found
+pub fn find(store: &[u8], name: [u8; 8]) -> Option<usize>
     requires { length store.now ≡ store_length }
-    ensures { result ≡ found_of (first_named store.now name) }
+    ensures { result ≡ first_named store.now name }
 {
     for entry in 0..ENTRIES {
         if is_named(store, entry, name) {
-            return Found::Entry(entry);
+            return Some(entry);
         }
     }
-    Found::Nothing
+    None
 }
 
 // The entry that a save writes: the first with the name, else the first empty one.
-pub fn place_for(store: &[u8], name: [u8; 8]) -> Found
+pub fn place_for(store: &[u8], name: [u8; 8]) -> Option<usize>
     requires { length store.now ≡ store_length }
-    ensures { result ≡ found_of (place_for store.now name) }
+    ensures { result ≡ place_for store.now name }
 {
-    let Found::Entry(entry) = find(store, name) else {
+    let Some(entry) = find(store, name) else {
         return find(store, [0; 8]);
     };
-    Found::Entry(entry)
+    Some(entry)
 }
 
 pub fn write_name(store: &mut [u8], entry: usize, name: [u8; 8])

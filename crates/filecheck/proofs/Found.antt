@@ -1,4 +1,5 @@
 -- The table of rows below, as the stations' check fills it with the rows that it finds. Assumes nothing.
+use Rattle.std.specs.Prelude.{Option, Some}
 use mathlib.Core.Path.{◌≡◌, sym, ap, ◌∙◌}
 use mathlib.Core.List.{List, append_assoc}
 use Prim.Native.Nat.{ℕ, suc, ◌+◌, ◌-◌, ◌≤◌, ◌<◌}
@@ -10,10 +11,7 @@ use Rattle.general.specs.Tables.{tab}
 use Rattle.general.specs.Tests.{first_at}
 use Rattle.general.proofs.Fill.{filled, fill_none, fill_more}
 use Rattle.rules.specs.Path.{row_below}
-use Rattle.records.specs.declared.network.Below.{Below}
-use Rattle.records.specs.declared.network.Below.TheVariants.{Row}
 use Rattle.records.specs.Records.{rows_of, stations_of}
-use Rattle.records.specs.Network.{below_of}
 use Rattle.records.specs.Table.{below_code, table_of, TableFor}
 use Rattle.records.proofs.Rows.{rows_are}
 use Rattle.records.proofs.Table.{code_row}
@@ -38,7 +36,7 @@ module _ (s : List ℕ) where
   pub found-lost : (t : List ℕ) (i : ℕ) → Station i ≡ Accepted → TableFor s t
   found-lost t i g = let z : ◌≡◌ {A = ℕ} 0 1 = cc in absurd (omega arith)
 
-  module _ (i q : ℕ) (b : Below) (e : b ≡ below_of (row_below (stations_of s) i)) (g : b ≡ Row q) where
+  module _ (i q : ℕ) (b : Option ℕ) (e : b ≡ row_below (stations_of s) i) (g : b ≡ Some q) where
     -- a row's number fits in a byte, since there are at most 64
     pub found-small : rows_of s ≤ 64 → q < 64
     found-small few = omega (arith, (code_row (stations_of s) i q (sym e ∙ g)).0, rows_are s)

@@ -7,7 +7,7 @@ ghost use Rattle.filecheck.specs.Check.{stations_verdict, only_if};
 
 use filerules::stations::plain_ok;
 use numbers::both;
-use records::network::{Below, row_below};
+use records::network::row_below;
 use records::stations::station_at;
 use rules::Verdict;
 
@@ -35,7 +35,7 @@ pub fn check_stations(stations: &[u8], below: &mut [u8; 64]) -> Verdict
         if !plain_ok(stations, row) {
             return Verdict::Station(row);
         }
-        let Below::Row(next) = row_below(stations, row) else {
+        let Some(next) = row_below(stations, row) else {
             return Verdict::Station(row);
         };
         below[row] = next as u8;

@@ -10,31 +10,28 @@ use lib.ListN.{get_or, set, length-set}
 use lib.Seq.{get_or-set_same, get_or-set_other}
 use Rattle.general.specs.Sums.{only}
 use Rattle.general.proofs.Tests.{eqb-other, by_eqb, not-lt-of}
-use Rattle.records.specs.declared.network.Below.TheVariants.{Row, Nothing}
-use Rattle.records.specs.Network.{below_of}
 use Rattle.records.specs.Table.{step_of}
-use Rattle.records.proofs.Rows.{to_row, to_none}
 use Rattle.records.proofs.Table.{by_row}
 use Rattle.opening.specs.Opening.{CanSend, Sent}
 
-row_next : (t : List ℕ) (r q : ℕ) → below_of (step_of t r) ≡ Row q → get_or t r 0 ≡ q
+row_next : (t : List ℕ) (r q : ℕ) → step_of t r ≡ Some q → get_or t r 0 ≡ q
 unfolding step_of
-row_next t r q b = go (ltb (get_or t r 0) 64) (to_row (step_of t r) q b)
+row_next t r q b = go (ltb (get_or t r 0) 64) b
   where
     go : (s : Bool) → cond s (Some (get_or t r 0)) None ≡ Some q → get_or t r 0 ≡ q
     go true e = cc
     go false e = absurd (let z : ◌≡◌ {A = ℕ} 0 1 = cc in omega arith)
 
-row_last : (t : List ℕ) (r : ℕ) → below_of (step_of t r) ≡ Nothing → 64 ≤ get_or t r 0
+row_last : (t : List ℕ) (r : ℕ) → step_of t r ≡ None → 64 ≤ get_or t r 0
 unfolding step_of
-row_last t r b = go (ltb (get_or t r 0) 64) refl (to_none (step_of t r) b)
+row_last t r b = go (ltb (get_or t r 0) 64) refl b
   where
     go : (s : Bool) → ltb (get_or t r 0) 64 ≡ s → cond s (Some (get_or t r 0)) None ≡ None → 64 ≤ get_or t r 0
     go true f e = absurd (let z : ◌≡◌ {A = ℕ} 0 1 = cc in omega arith)
     go false f e = not-lt-of f
 
 module _ (t f a : List ℕ) (row d : ℕ) (c : CanSend t row d f a) (x : ℕ) (e : x ≡ get_or f row 0 + d) where
-  pub sent-last : below_of (step_of t row) ≡ Nothing → Sent t row d f a (set f row x) (set a row x)
+  pub sent-last : step_of t row ≡ None → Sent t row d f a (set f row x) (set a row x)
   sent-last b = record {
     here = get_or-set_same f row x 0 (omega (arith, c.row-ok.on, c.places)) ∙ e;
     here₂ = get_or-set_same a row x 0 (omega (arith, c.row-ok.on, c.places₂)) ∙ e;
@@ -46,7 +43,7 @@ module _ (t f a : List ℕ) (row d : ℕ) (c : CanSend t row d f a) (x : ℕ) (e
     size₂ = length-set a row x;
   }
 
-  module _ (q : ℕ) (b : below_of (step_of t row) ≡ Row q) where
+  module _ (q : ℕ) (b : step_of t row ≡ Some q) where
     further : (row < q) × (q < 64)
     further = let w = by_row t c.row-ok.downhill row q c.row-ok.on b in (w.1, w.2)
 

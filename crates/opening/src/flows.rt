@@ -4,7 +4,7 @@ ghost use Rattle.opening.specs.Opening.{CanSend, Sent, CanGather, Gathered};
 
 use numbers::wide32;
 use places::board::due_place;
-use records::network::{Below, next_row};
+use records::network::next_row;
 
 // At a row where d enters: its flow is d and all that has come down to it, and goes on to the row below. Available flow starts equal to
 // flow.
@@ -15,7 +15,7 @@ fn send_down(below: &[u8; 64], flow: &mut [u64; 64], available: &mut [u64; 64], 
     let x = flow[row] + d;
     flow[row] = x;
     available[row] = x;
-    if let Below::Row(next) = next_row(below, row) {
+    if let Some(next) = next_row(below, row) {
         flow[next] = flow[next] + x;
     }
 }

@@ -18,11 +18,9 @@ use Rattle.general.proofs.Tests.{ltb_yes, ltb_no, lt_of}
 use Rattle.rules.specs.Basin.{Station}
 use Rattle.rules.specs.Path.{row_below, path}
 use Rattle.rules.proofs.Path.{below-later}
-use Rattle.records.specs.declared.network.Below.TheVariants.{Row, Nothing}
 use Rattle.records.specs.Records.{rows_of, stations_of}
-use Rattle.records.specs.Network.{below_of}
 use Rattle.records.specs.Table.{GoodRows, below_code, table_of, step_of, path_by, Downhill, OnTable, TableFor, ReservoirsOn}
-use Rattle.records.proofs.Rows.{to_row, to_none, rows_are}
+use Rattle.records.proofs.Rows.{rows_are}
 
 -- ---- one step by the table
 
@@ -34,10 +32,10 @@ step-none : (t : List ℕ) (r : ℕ) → 64 ≤ get_or t r 0 → step_of t r ≡
 unfolding step_of
 step-none t r h = rw (ltb_no (get_or t r 0) 64 h)
 
-pub next-is : (t : List ℕ) (r x : ℕ) → x ≡ get_or t r 0 → x < 64 → Row x ≡ below_of (step_of t r)
-next-is t r x e h = rw (step_is t r (omega arith)) (ap (λ (y : ℕ). Row y) e)
+pub next-is : (t : List ℕ) (r x : ℕ) → x ≡ get_or t r 0 → x < 64 → Some x ≡ step_of t r
+next-is t r x e h = rw (step_is t r (omega arith)) (ap (λ (y : ℕ). Some y) e)
 
-pub next-none : (t : List ℕ) (r x : ℕ) → x ≡ get_or t r 0 → 64 ≤ x → Nothing ≡ below_of (step_of t r)
+pub next-none : (t : List ℕ) (r x : ℕ) → x ≡ get_or t r 0 → 64 ≤ x → None ≡ step_of t r
 next-none t r x e h = rw (step-none t r (omega arith))
 
 module _ (t : List ℕ) (d : Downhill t) where
@@ -50,16 +48,15 @@ module _ (t : List ℕ) (d : Downhill t) where
       go false f g = let z : ◌≡◌ {A = ℕ} 0 1 = cc in absurd (omega arith)
 
   -- the path of a row goes on at the row that the lookup answers
-  pub by_row : (i q : ℕ) → i < 64 → below_of (step_of t i) ≡ Row q → (path_by t i ≡ i ∷ path_by t q) × (i < q) × (q < 64)
+  pub by_row : (i q : ℕ) → i < 64 → step_of t i ≡ Some q → (path_by t i ≡ i ∷ path_by t q) × (i < q) × (q < 64)
   unfolding path_by
   by_row i q h b =
-      let e : step_of t i ≡ Some q = to_row (step_of t i) q b in
-      let w = downhill-later i q h e in
-      (route-row (step_of t) 64 downhill-later i q h e, w.0, w.1)
+      let w = downhill-later i q h b in
+      (route-row (step_of t) 64 downhill-later i q h b, w.0, w.1)
 
-  pub by_end : (i : ℕ) → i < 64 → below_of (step_of t i) ≡ Nothing → path_by t i ≡ i ∷ []
+  pub by_end : (i : ℕ) → i < 64 → step_of t i ≡ None → path_by t i ≡ i ∷ []
   unfolding path_by
-  by_end i h b = route-end (step_of t) 64 downhill-later i h (to_none (step_of t i) b)
+  by_end i h b = route-end (step_of t) 64 downhill-later i h b
 
   pub by-self : (i : ℕ) → i < 64 → has i (path_by t i) ≡ true
   unfolding path_by
@@ -71,10 +68,10 @@ module _ (t : List ℕ) (i k : ℕ) (o : OnTable t i) where
   pub on-here : k ≡ i → has k (path_by t i) ≡ true
   on-here e = rw e (by-self t o.downhill i o.on)
 
-  pub on-end : below_of (step_of t i) ≡ Nothing → (k ≡ i → ⊥) → has k (path_by t i) ≡ false
+  pub on-end : step_of t i ≡ None → (k ≡ i → ⊥) → has k (path_by t i) ≡ false
   on-end b ne = rw (by_end t o.downhill i o.on b) (has-single k i ne)
 
-  module _ (q : ℕ) (b : below_of (step_of t i) ≡ Row q) where
+  module _ (q : ℕ) (b : step_of t i ≡ Some q) where
     pub on_below : (k ≡ i → ⊥) → has k (path_by t i) ≡ has k (path_by t q)
     on_below ne = rw (by_row t o.downhill i q o.on b).0 (has_other k i (path_by t q) ne)
 
@@ -107,13 +104,13 @@ module _ (st : List Station) where
       ∙ get_or-replicate (64 - length st) (r - length st) 255 0 (omega arith)
 
   -- what the lookup writes into it
-  pub code_row : (r q : ℕ) → below_of (row_below st r) ≡ Row q → (q < length st) × (q ≡ below_code (row_below st r))
+  pub code_row : (r q : ℕ) → row_below st r ≡ Some q → (q < length st) × (q ≡ below_code (row_below st r))
   unfolding below_code
-  code_row r q b = let e : row_below st r ≡ Some q = to_row (row_below st r) q b in ((below-later st r q e).1, rw e)
+  code_row r q b = ((below-later st r q b).1, rw b)
 
-  pub code-none : (r : ℕ) → below_of (row_below st r) ≡ Nothing → 255 ≡ below_code (row_below st r)
+  pub code-none : (r : ℕ) → row_below st r ≡ None → 255 ≡ below_code (row_below st r)
   unfolding below_code
-  code-none r b = rw (to_none (row_below st r) b)
+  code-none r b = rw b
 
   module _ (few : length st ≤ 64) where
     table_step : (r : ℕ) → r < length st → step_of (table_of st) r ≡ row_below st r
@@ -140,8 +137,8 @@ module _ (st : List Station) where
     pub table-path : (r : ℕ) → r < length st → path_by (table_of st) r ≡ path st r
     unfolding path
     table-path = by-route (row_below st) (length st) (λ x q k e. below-later st x q e) (λ x p. path_by (table_of st) x ≡ p)
-        (λ x k e. by_end (table_of st) table-downhill x (omega arith) (ap below_of (table_step x k ∙ e)))
-        (λ x q k e a b ih. (by_row (table_of st) table-downhill x q (omega arith) (ap below_of (table_step x k ∙ e))).0 ∙ ap (λ (p : List ℕ). x ∷ p) ih)
+        (λ x k e. by_end (table_of st) table-downhill x (omega arith) ((table_step x k ∙ e)))
+        (λ x q k e a b ih. (by_row (table_of st) table-downhill x q (omega arith) ((table_step x k ∙ e))).0 ∙ ap (λ (p : List ℕ). x ∷ p) ih)
 
 -- ---- the table of a body of stations
 

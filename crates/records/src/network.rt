@@ -3,17 +3,10 @@ ghost use Rattle.std.specs.Prelude.{◌≡◌, ◌≤◌, ◌<◌};
 ghost use Rattle.general.specs.Tests.{has};
 ghost use Rattle.rules.specs.Path.{row_below};
 ghost use Rattle.records.specs.Records.{rows_of, stations_of};
-ghost use Rattle.records.specs.Network.{below_of, order_at};
+ghost use Rattle.records.specs.Network.{order_at};
 ghost use Rattle.records.specs.Table.{below_code, table_of, step_of, path_by, OnTable};
 
 use numbers::index;
-
-// The next station downstream, where there is one.
-#[derive(Clone, Copy)]
-pub enum Below {
-    Row(usize),
-    Nothing,
-}
 
 // Widened, so that one more than an order does not wrap.
 fn order_at(stations: &[u8], row: usize) -> usize
@@ -23,25 +16,23 @@ fn order_at(stations: &[u8], row: usize) -> usize
     index(stations[8 * row + 4])
 }
 
-// The river goes on at the next row of the same order, or of one less.
-pub fn row_below(stations: &[u8], row: usize) -> Below
+// The next station downstream, where there is one: the river goes on at the next row of the same order, or of one less.
+pub fn row_below(stations: &[u8], row: usize) -> Option<usize>
     requires { row < rows_of stations.now }
-    ensures { result ≡ below_of (row_below (stations_of stations.now) row) }
+    ensures { result ≡ row_below (stations_of stations.now) row }
 {
     let order = order_at(stations, row);
     let n = stations.len() / 8;
-    let mut later = row + 1;
-    while later < n {
+    for later in row + 1..n {
         let x = order_at(stations, later);
         if x == order {
-            return Below::Row(later);
+            return Some(later);
         }
         if x + 1 == order {
-            return Below::Row(later);
+            return Some(later);
         }
-        later += 1;
     }
-    Below::Nothing
+    None
 }
 
 // The number that stands for a row below in the table: a row's own, which fits since there are at most 64, and 255 for none.
@@ -49,7 +40,7 @@ fn code(stations: &[u8], row: usize) -> u8
     requires { (row < rows_of stations.now) × (rows_of stations.now ≤ 64) }
     ensures { result ≡ below_code (row_below (stations_of stations.now) row) }
 {
-    let Below::Row(next) = row_below(stations, row) else {
+    let Some(next) = row_below(stations, row) else {
         return 255;
     };
     next as u8
@@ -69,15 +60,15 @@ pub fn rows_below(stations: &[u8]) -> [u8; 64]
 }
 
 // The row below, by the table.
-pub fn next_row(below: &[u8; 64], row: usize) -> Below
+pub fn next_row(below: &[u8; 64], row: usize) -> Option<usize>
     requires { row < 64 }
-    ensures { result ≡ below_of (step_of below.now row) }
+    ensures { result ≡ step_of below.now row }
 {
     let next = index(below[row]);
     if next < 64 {
-        return Below::Row(next);
+        return Some(next);
     }
-    Below::Nothing
+    None
 }
 
 // Whether the target is on the row's path: it is the row itself, or on the path of the row below. All that it is given fits in registers,
@@ -89,7 +80,7 @@ pub fn on_path(below: &[u8; 64], row: usize, target: usize) -> bool
     if target == row {
         return true;
     }
-    let Below::Row(next) = next_row(below, row) else {
+    let Some(next) = next_row(below, row) else {
         return false;
     };
     on_path(below, next, target)

@@ -1,4 +1,5 @@
 -- One step of each walk, at what the code has in hand. Assumes nothing.
+use Rattle.std.specs.Prelude.{None, Option, Some}
 use mathlib.Core.Bool.{Bool, true, false, cond}
 use mathlib.Core.List.{List, [], ◌∷◌}
 use mathlib.Core.Logic.{◌≢◌}
@@ -13,9 +14,6 @@ use Rattle.general.proofs.Tests.{absurd-bool, by_eqb, ltb_yes, ltb_no}
 use Rattle.rules.specs.Path.{until_row}
 use Rattle.rules.specs.River.{Level, diverted, released, returned}
 use Rattle.rules.proofs.Path.{until_none, until_stop, until-on}
-use Rattle.records.specs.declared.network.Below.{Below}
-use Rattle.records.specs.declared.network.Below.TheVariants.{Row, Nothing}
-use Rattle.records.specs.Network.{below_of}
 use Rattle.records.specs.Table.{step_of, path_by, OnTable}
 use Rattle.records.proofs.Table as table
 use Rattle.records.proofs.Table.{by_end, by-self}
@@ -35,12 +33,12 @@ module _ (t : List ℕ) (i : ℕ) (o : OnTable t i) where
   room-self d l e = e.fits i (by-self t o.downhill i o.on)
 
   -- the path goes on at the row below, and does not come back
-  by_row : (q : ℕ) → below_of (step_of t i) ≡ Row q → (path_by t i ≡ i ∷ path_by t q) × (has i (path_by t q) ≡ false)
+  by_row : (q : ℕ) → step_of t i ≡ Some q → (path_by t i ≡ i ∷ path_by t q) × (has i (path_by t q) ≡ false)
   by_row q b = let w = table.by_row t o.downhill i q o.on b in (w.0, by-off t o.downhill i q w.2 w.1)
 
 -- ---- what passes on to the row below
 
-module _ (t : List ℕ) (i q : ℕ) (b : below_of (step_of t i) ≡ Row q) (d x y : ℕ) (f a : List ℕ) where
+module _ (t : List ℕ) (i q : ℕ) (b : step_of t i ≡ Some q) (d x y : ℕ) (f a : List ℕ) where
   pub next-divert : CanDivert t i d f a → CanDivert t q d (set f i x) (set a i y)
   next-divert o =
       let w = by_row t i o.row-ok q b in
@@ -87,7 +85,7 @@ module _ (t : List ℕ) (i x y : ℕ) (g : Level → Level) (f a : List ℕ) (o 
   other : (w : ℕ) → w ≢ i → row_level (set f i x) (set a i y) w ≡ row_level f a w
   other = set_other f a i x y (omega (arith, o.on)) (omega (arith, o.on))
 
-  pub both-row : (q : ℕ) (f' a' : List ℕ) → below_of (step_of t i) ≡ Row q → Walked g (path_by t q) (set f i x) (set a i y) f' a' → Walked g (path_by t i) f a f' a'
+  pub both-row : (q : ℕ) (f' a' : List ℕ) → step_of t i ≡ Some q → Walked g (path_by t q) (set f i x) (set a i y) f' a' → Walked g (path_by t i) f a f' a'
   both-row q f' a' b e =
       let w = by_row t i o q b in
       record {
@@ -96,7 +94,7 @@ module _ (t : List ℕ) (i x y : ℕ) (g : Level → Level) (f a : List ℕ) (o 
         available_size = e.available_size ∙ length-set a i y;
       }
 
-  pub both_end : below_of (step_of t i) ≡ Nothing → Walked g (path_by t i) f a (set f i x) (set a i y)
+  pub both_end : step_of t i ≡ None → Walked g (path_by t i) f a (set f i x) (set a i y)
   both_end b = record {
     levels = λ n. rw (by_end t o.downhill i o.on b) (walk-done n i g f a _ _ here other);
     flow_size = length-set f i x;
@@ -111,10 +109,10 @@ module _ (t : List ℕ) (i d : ℕ) (f a : List ℕ) (o : CanDivert t i d f a) w
       set_here f a i _ _ (omega (arith, o.row-ok.on, o.places)) (omega (arith, o.row-ok.on, o.places₂))
       ∙ diverted-level (get_or f i 0) (get_or a i 0) d (enough-self t i o.row-ok d f o.flows) (enough-self t i o.row-ok d a o.availables)
 
-  pub divert-row : (q : ℕ) (f' a' : List ℕ) → below_of (step_of t i) ≡ Row q → Walked (diverted d) (path_by t q) (set f i (get_or f i 0 - d)) (set a i (get_or a i 0 - d)) f' a' → Walked (diverted d) (path_by t i) f a f' a'
+  pub divert-row : (q : ℕ) (f' a' : List ℕ) → step_of t i ≡ Some q → Walked (diverted d) (path_by t q) (set f i (get_or f i 0 - d)) (set a i (get_or a i 0 - d)) f' a' → Walked (diverted d) (path_by t i) f a f' a'
   divert-row = both-row t i _ _ (diverted d) f a o.row-ok o.places o.places₂ diverted-here
 
-  pub divert-end : below_of (step_of t i) ≡ Nothing → Walked (diverted d) (path_by t i) f a (set f i (get_or f i 0 - d)) (set a i (get_or a i 0 - d))
+  pub divert-end : step_of t i ≡ None → Walked (diverted d) (path_by t i) f a (set f i (get_or f i 0 - d)) (set a i (get_or a i 0 - d))
   divert-end = both_end t i _ _ (diverted d) f a o.row-ok o.places o.places₂ diverted-here
 
 -- ---- put back
@@ -125,10 +123,10 @@ module _ (t : List ℕ) (i d : ℕ) (f a : List ℕ) (o : CanReturn t i d f a) w
       set_here f a i _ _ (omega (arith, o.row-ok.on, o.places)) (omega (arith, o.row-ok.on, o.places₂))
       ∙ returned-level (get_or f i 0) (get_or a i 0) d
 
-  pub return-row : (q : ℕ) (f' a' : List ℕ) → below_of (step_of t i) ≡ Row q → Walked (returned d) (path_by t q) (set f i (get_or f i 0 + d)) (set a i (get_or a i 0 + d)) f' a' → Walked (returned d) (path_by t i) f a f' a'
+  pub return-row : (q : ℕ) (f' a' : List ℕ) → step_of t i ≡ Some q → Walked (returned d) (path_by t q) (set f i (get_or f i 0 + d)) (set a i (get_or a i 0 + d)) f' a' → Walked (returned d) (path_by t i) f a f' a'
   return-row = both-row t i _ _ (returned d) f a o.row-ok o.places o.places₂ returned-here
 
-  pub return-end : below_of (step_of t i) ≡ Nothing → Walked (returned d) (path_by t i) f a (set f i (get_or f i 0 + d)) (set a i (get_or a i 0 + d))
+  pub return-end : step_of t i ≡ None → Walked (returned d) (path_by t i) f a (set f i (get_or f i 0 + d)) (set a i (get_or a i 0 + d))
   return-end = both_end t i _ _ (returned d) f a o.row-ok o.places o.places₂ returned-here
 
 -- ---- release
@@ -145,7 +143,7 @@ module _ (t : List ℕ) (i d stop : ℕ) (f : List ℕ) (o : CanRelease t i d f)
   released-here : (a : List ℕ) → row_level (set f i (get_or f i 0 + d)) a i ≡ released d (row_level f a i)
   released-here a = flow-here f a i _ (omega (arith, o.row-ok.on, o.places)) ∙ released-level (get_or f i 0) (get_or a i 0) d
 
-  pub release-row : (q : ℕ) (f' : List ℕ) → below_of (step_of t i) ≡ Row q → i ≢ stop
+  pub release-row : (q : ℕ) (f' : List ℕ) → step_of t i ≡ Some q → i ≢ stop
       → Raised (released d) (until_row stop (path_by t q)) (set f i (get_or f i 0 + d)) f'
       → Raised (released d) (until_row stop (path_by t i)) f f'
   release-row q f' b ne e =
@@ -156,18 +154,18 @@ module _ (t : List ℕ) (i d stop : ℕ) (f : List ℕ) (o : CanRelease t i d f)
         flow_size = e.flow_size ∙ length-set f i (get_or f i 0 + d);
       }
 
-  pub release-end : below_of (step_of t i) ≡ Nothing → i ≢ stop → Raised (released d) (until_row stop (path_by t i)) f (set f i (get_or f i 0 + d))
+  pub release-end : step_of t i ≡ None → i ≢ stop → Raised (released d) (until_row stop (path_by t i)) f (set f i (get_or f i 0 + d))
   release-end b ne = record {
     levels = λ n a. rw (by_end t o.row-ok.downhill i o.row-ok.on b, until-on stop i [] ne, until_none stop) (walk-done n i (released d) f a _ a (released-here a) (flow-other f a i _));
     flow_size = length-set f i (get_or f i 0 + d);
   }
 
   pub release-stop : i ≡ stop → Raised (released d) (until_row stop (path_by t i)) f f
-  release-stop e = record { levels = λ n a. rw (nothing (below_of (step_of t i)) refl) (change-nothing n (released d) f a); flow_size = refl }
+  release-stop e = record { levels = λ n a. rw (nothing ((step_of t i)) refl) (change-nothing n (released d) f a); flow_size = refl }
     where
-      nothing : (x : Below) → below_of (step_of t i) ≡ x → until_row stop (path_by t i) ≡ []
-      nothing (Row q) b = rw (by_row t i o.row-ok q b).0 (until_stop stop i (path_by t q) e)
-      nothing Nothing b = rw (by_end t o.row-ok.downhill i o.row-ok.on b) (until_stop stop i [] e)
+      nothing : (x : Option ℕ) → step_of t i ≡ x → until_row stop (path_by t i) ≡ []
+      nothing (Some q) b = rw (by_row t i o.row-ok q b).0 (until_stop stop i (path_by t q) e)
+      nothing None b = rw (by_end t o.row-ok.downhill i o.row-ok.on b) (until_stop stop i [] e)
 
 -- ---- look
 
@@ -184,11 +182,11 @@ module _ (t : List ℕ) (i low : ℕ) (short : List Bool) (a : List ℕ) (o : Ca
   unfolding seen_on
   look-called e =
       let z : 64 + i - 64 ≡ i = omega arith in
-      sym (seen-called (64 + i) (omega arith)) ∙ ap (λ (x : ℕ). Called x) z ∙ go (below_of (step_of t i)) refl
+      sym (seen-called (64 + i) (omega arith)) ∙ ap (λ (x : ℕ). Called x) z ∙ go ((step_of t i)) refl
     where
-      go : (x : Below) → below_of (step_of t i) ≡ x → Called i ≡ seen_on short a low (path_by t i)
-      go (Row q) b = rw ((by_row t i o.row-ok q b).0, e)
-      go Nothing b = rw (by_end t o.row-ok.downhill i o.row-ok.on b, e)
+      go : (x : Option ℕ) → step_of t i ≡ x → Called i ≡ seen_on short a low (path_by t i)
+      go (Some q) b = rw ((by_row t i o.row-ok q b).0, e)
+      go None b = rw (by_end t o.row-ok.downhill i o.row-ok.on b, e)
 
   module _ (r : ℕ) (open_row : get_or short i false ≡ false) (e : r ≡ cond (ltb (get_or a i 0) (get_or a low 0)) i low) where
     lower_in : r < 64
@@ -198,13 +196,13 @@ module _ (t : List ℕ) (i low : ℕ) (short : List Bool) (a : List ℕ) (o : Ca
         go true = o.row-ok.on
         go false = o.low_on
 
-    pub look-end : below_of (step_of t i) ≡ Nothing → seen_as r ≡ seen_on short a low (path_by t i)
+    pub look-end : step_of t i ≡ None → seen_as r ≡ seen_on short a low (path_by t i)
     unfolding seen_on
     look-end b = sym (seen_low r lower_in) ∙ rw (by_end t o.row-ok.downhill i o.row-ok.on b, open_row, ← e)
 
-    pub look-on : (q : ℕ) (x : Seen) → below_of (step_of t i) ≡ Row q → x ≡ seen_on short a r (path_by t q) → x ≡ seen_on short a low (path_by t i)
+    pub look-on : (q : ℕ) (x : Seen) → step_of t i ≡ Some q → x ≡ seen_on short a r (path_by t q) → x ≡ seen_on short a low (path_by t i)
     unfolding seen_on
     look-on q x b g = rw ((by_row t i o.row-ok q b).0, open_row, ← e) g
 
-    pub next-look : (q : ℕ) → below_of (step_of t i) ≡ Row q → CanLook t q r
+    pub next-look : (q : ℕ) → step_of t i ≡ Some q → CanLook t q r
     next-look q b = record { row-ok = (table.walk-on t i q o.row-ok q b).1; low_on = lower_in }

@@ -8,7 +8,7 @@ ghost use Rattle.rules.specs.River.{diverted, released, returned};
 ghost use Rattle.records.specs.Table.{path_by};
 ghost use Rattle.river.specs.Arrays.{seen_as, seen_on, CanDivert, CanReturn, CanRelease, CanLook, Walked, Raised};
 
-use records::network::{Below, next_row};
+use records::network::next_row;
 
 // What a look down a path sees: the row of a right that is short already, or the row with the lowest available flow.
 #[derive(Clone, Copy)]
@@ -24,7 +24,7 @@ pub fn divert(below: &[u8; 64], flow: &mut [u64; 64], available: &mut [u64; 64],
 {
     flow[row] = flow[row] - d;
     available[row] = available[row] - d;
-    if let Below::Row(next) = next_row(below, row) {
+    if let Some(next) = next_row(below, row) {
         divert(below, flow, available, next, d);
     }
 }
@@ -42,7 +42,7 @@ pub fn put_back(
 {
     flow[row] = flow[row] + d;
     available[row] = available[row] + d;
-    if let Below::Row(next) = next_row(below, row) {
+    if let Some(next) = next_row(below, row) {
         put_back(below, flow, available, next, d);
     }
 }
@@ -56,7 +56,7 @@ pub fn release(below: &[u8; 64], flow: &mut [u64; 64], row: usize, stop: usize, 
         return;
     }
     flow[row] = flow[row] + d;
-    if let Below::Row(next) = next_row(below, row) {
+    if let Some(next) = next_row(below, row) {
         release(below, flow, next, stop, d);
     }
 }
@@ -88,7 +88,7 @@ fn look_down(
         return 64 + row;
     }
     let lowest = lower(available, row, low);
-    let Below::Row(next) = next_row(below, row) else {
+    let Some(next) = next_row(below, row) else {
         return lowest;
     };
     look_down(below, short, available, next, lowest)

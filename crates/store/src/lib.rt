@@ -8,7 +8,7 @@ ghost use Rattle.store.specs.Calls.{store_fits, name_refusal, stored, recalled, 
 
 use answers::{Answer, tell};
 use entries::copies::{STORE_LENGTH, read_board, write_board};
-use entries::names::{Found, NAME_LENGTH, find, fixed, place_for, same_name, write_name};
+use entries::names::{NAME_LENGTH, find, fixed, place_for, same_name, write_name};
 use places::board::BOARD_LENGTH;
 use rules::Verdict;
 
@@ -40,7 +40,7 @@ pub fn save(store: &mut [u8], name: &[u8], board: &[u64]) -> Answer
         return on_name;
     }
     let id = fixed(name);
-    let Found::Entry(entry) = place_for(store, id) else {
+    let Some(entry) = place_for(store, id) else {
         return tell(Verdict::Full);
     };
     write_name(store, entry, id);
@@ -55,7 +55,7 @@ pub fn recall(store: &[u8], name: &[u8], board: &mut [u64]) -> Answer
     if on_name.number != 0 {
         return on_name;
     }
-    let Found::Entry(entry) = find(store, fixed(name)) else {
+    let Some(entry) = find(store, fixed(name)) else {
         return tell(Verdict::Name);
     };
     read_board(store, entry, board);
@@ -70,7 +70,7 @@ pub fn drop_name(store: &mut [u8], name: &[u8]) -> Answer
     if on_name.number != 0 {
         return on_name;
     }
-    let Found::Entry(entry) = find(store, fixed(name)) else {
+    let Some(entry) = find(store, fixed(name)) else {
         return tell(Verdict::Name);
     };
     write_name(store, entry, [0; 8]);

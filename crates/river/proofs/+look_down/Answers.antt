@@ -17,11 +17,11 @@ returns-in_default t c =
 pub look_down-requires : goal.look_down-requires
 look_down-requires t c =
     let i = c.args.row in
-    let q = c.in-Row.next in
-    let e = sym c.next_row.ensures ∙ c.in-Row.is in
+    let q = c.in-Some.next in
+    let e = sym c.next_row.ensures ∙ c.in-Some.is in
     let w = walk-on c.args.below.now i q c.requires.row-ok q e in
     (omega (arith, c.decreases, w.0, w.1.on), next-look c.args.below.now i c.args.low c.args.short.now c.args.available.now c.requires c.lower-lowest.result c.if-short-row.false c.lower-lowest.ensures q e)
 
 pub returns : goal.returns
 returns t c =
-    look-on c.args.below.now c.args.row c.args.low c.args.short.now c.args.available.now c.requires c.lower-lowest.result c.if-short-row.false c.lower-lowest.ensures c.in-Row.next (seen_as c.look_down.result) (sym c.next_row.ensures ∙ c.in-Row.is) c.look_down.ensures
+    look-on c.args.below.now c.args.row c.args.low c.args.short.now c.args.available.now c.requires c.lower-lowest.result c.if-short-row.false c.lower-lowest.ensures c.in-Some.next (seen_as c.look_down.result) (sym c.next_row.ensures ∙ c.in-Some.is) c.look_down.ensures

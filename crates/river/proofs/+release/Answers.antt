@@ -20,14 +20,14 @@ pub release-requires : goal.release-requires
 release-requires t c =
     let f = c.args.flow.now in
     let i = c.args.row in
-    let q = c.in-Row.next in
-    let e = sym c.next_row.ensures ∙ c.in-Row.is in
+    let q = c.in-Some.next in
+    let e = sym c.next_row.ensures ∙ c.in-Some.is in
     let w = walk-on c.args.below.now i q c.requires.row-ok q e in
     (omega (arith, c.decreases, w.0, w.1.on), next-release c.args.below.now i q e c.args.d (get_or f i 0 + c.args.d) 0 f [] c.requires)
 
-pub returns-in-Row : goal.returns-in-Row
-returns-in-Row t c =
-    release-row c.args.below.now c.args.row c.args.d c.args.stop c.args.flow.now c.requires c.in-Row.next _ (sym c.next_row.ensures ∙ c.in-Row.is) c.if-row-stop.false c.release.ensures
+pub returns-in-Some : goal.returns-in-Some
+returns-in-Some t c =
+    release-row c.args.below.now c.args.row c.args.d c.args.stop c.args.flow.now c.requires c.in-Some.next _ (sym c.next_row.ensures ∙ c.in-Some.is) c.if-row-stop.false c.release.ensures
 
 pub returns-in_default : goal.returns-in_default
 returns-in_default t c =

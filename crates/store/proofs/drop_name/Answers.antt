@@ -43,7 +43,7 @@ write_name-requires c =
     let s = a.store.now in
     let n = a.name.now in
     let k = clear_of s n true _ c.judge-on_name.ensures (omega arith) in
-    let o = looked-at (first_named s) n c.fixed.ensures c.find.ensures c.in-Entry.is in
+    let o = looked-at (first_named s) n c.fixed.ensures c.find.ensures c.in-Some.is in
     (k.lists.store, named-within s n _ o)
 
 pub returns : goal.returns
@@ -52,5 +52,5 @@ returns c =
     let s = a.store.now in
     let n = a.name.now in
     let k = clear_of s n true _ c.judge-on_name.ensures (omega arith) in
-    let o = looked-at (first_named s) n c.fixed.ensures c.find.ensures c.in-Entry.is in
+    let o = looked-at (first_named s) n c.fixed.ensures c.find.ensures c.in-Some.is in
     drop-done s n _ k _ o c.tell-2.ensures c.write_name.ensures

@@ -49,7 +49,7 @@ read_board-requires c =
     let n = a.name.now in
     let b = a.board.now in
     let k = clear_of s n (board_fits b) _ c.judge-on_name.ensures (omega arith) in
-    let o = looked-at (first_named s) n c.fixed.ensures c.find.ensures c.in-Entry.is in
+    let o = looked-at (first_named s) n c.fixed.ensures c.find.ensures c.in-Some.is in
     (k.lists.store, named-within s n _ o, eq_of k.lists.other)
 
 pub returns : goal.returns
@@ -59,5 +59,5 @@ returns c =
     let n = a.name.now in
     let b = a.board.now in
     let k = clear_of s n (board_fits b) _ c.judge-on_name.ensures (omega arith) in
-    let o = looked-at (first_named s) n c.fixed.ensures c.find.ensures c.in-Entry.is in
+    let o = looked-at (first_named s) n c.fixed.ensures c.find.ensures c.in-Some.is in
     recall-done s n b _ k _ o c.tell-2.ensures c.read_board.ensures

@@ -50,7 +50,7 @@ write_name-requires c =
     let n = a.name.now in
     let b = a.board.now in
     let k = clear_of s n (board_fits b) _ c.judge-on_name.ensures (omega arith) in
-    let o = looked-at (place_for s) n c.fixed-id.ensures c.place_for.ensures c.in-Entry.is in
+    let o = looked-at (place_for s) n c.fixed-id.ensures c.place_for.ensures c.in-Some.is in
     (k.lists.store, place-within s n _ o)
 
 pub write_board-requires : goal.write_board-requires
@@ -60,7 +60,7 @@ write_board-requires c =
     let n = a.name.now in
     let b = a.board.now in
     let k = clear_of s n (board_fits b) _ c.judge-on_name.ensures (omega arith) in
-    let o = looked-at (place_for s) n c.fixed-id.ensures c.place_for.ensures c.in-Entry.is in
+    let o = looked-at (place_for s) n c.fixed-id.ensures c.place_for.ensures c.in-Some.is in
     (c.write_name.auto.store ∙ k.lists.store, place-within s n _ o, eq_of k.lists.other)
 
 pub returns : goal.returns
@@ -70,5 +70,5 @@ returns c =
     let n = a.name.now in
     let b = a.board.now in
     let k = clear_of s n (board_fits b) _ c.judge-on_name.ensures (omega arith) in
-    let o = looked-at (place_for s) n c.fixed-id.ensures c.place_for.ensures c.in-Entry.is in
+    let o = looked-at (place_for s) n c.fixed-id.ensures c.place_for.ensures c.in-Some.is in
     save-done s n b _ k _ o c.tell-2.ensures c.fixed-id.ensures c.write_name.ensures c.write_board.ensures

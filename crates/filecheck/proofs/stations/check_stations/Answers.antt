@@ -26,10 +26,10 @@ returns-in_default c = let s = c.args.stations.now in let row = c.loop-row.row i
 }
 
 pub overflow_cast-below : goal.overflow_cast-below
-overflow_cast-below c = let h = found-small c.args.stations.now c.loop-row.row c.in-Row.next _ c.row_below.ensures c.in-Row.is c.requires.1 in omega arith
+overflow_cast-below c = let h = found-small c.args.stations.now c.loop-row.row c.in-Some.next _ c.row_below.ensures c.in-Some.is c.requires.1 in omega arith
 
 pub loop-row-preserved : goal.loop-row-preserved
-loop-row-preserved c = let s = c.args.stations.now in let row = c.loop-row.row in let found = c.row_below.ensures in let told = c.in-Row.is in (
+loop-row-preserved c = let s = c.args.stations.now in let row = c.loop-row.row in let found = c.row_below.ensures in let told = c.in-Some.is in (
   omega arith,
   omega arith,
   verdict-on Station (station_ok s) (rows_of s) row (omega arith) (row-good s row (omega arith) _ found _ told (sym c.plain_ok.ensures ∙ c.if-not-plain_ok.false)) ∙ c.loop-row.invariant.2,

@@ -14,10 +14,10 @@ pub on_path-requires : goal.on_path-requires
 on_path-requires t c =
     let a = c.args in
     let o = c.requires in
-    let w = walk-on a.below.now a.row 0 o c.in-Row.next (sym c.next_row.ensures ∙ c.in-Row.is) in
+    let w = walk-on a.below.now a.row 0 o c.in-Some.next (sym c.next_row.ensures ∙ c.in-Some.is) in
     (omega (arith, c.decreases, w.0, o.on), w.1)
 
 pub returns : goal.returns
 returns t c =
     let a = c.args in
-    c.on_path.ensures ∙ sym (on_below a.below.now a.row a.target c.requires c.in-Row.next (sym c.next_row.ensures ∙ c.in-Row.is) c.if-target-row.false)
+    c.on_path.ensures ∙ sym (on_below a.below.now a.row a.target c.requires c.in-Some.next (sym c.next_row.ensures ∙ c.in-Some.is) c.if-target-row.false)

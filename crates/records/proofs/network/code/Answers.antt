@@ -14,10 +14,10 @@ returns-in_default c =
 pub overflow_cast-result : goal.overflow_cast-result
 overflow_cast-result c =
     let s = c.args.stations.now in
-    let w = code_row (stations_of s) c.args.row c.in-Row.next (sym c.row_below.ensures ∙ c.in-Row.is) in
+    let w = code_row (stations_of s) c.args.row c.in-Some.next (sym c.row_below.ensures ∙ c.in-Some.is) in
     omega (arith, w.0, rows_are s, c.requires.1)
 
 pub returns : goal.returns
 returns c =
     let a = c.args in
-    (code_row (stations_of a.stations.now) a.row _ (sym c.row_below.ensures ∙ c.in-Row.is)).1
+    (code_row (stations_of a.stations.now) a.row _ (sym c.row_below.ensures ∙ c.in-Some.is)).1
