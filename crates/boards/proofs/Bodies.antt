@@ -18,10 +18,11 @@ use Rattle.rules.specs.Basin.{Reservoir, Right, Basin, no_reservoir, no_right}
 use Rattle.rules.specs.Accepted.{Accepted}
 use Rattle.rules.specs.Theorems.{most_due}
 use Rattle.numbers.specs.Bytes.{le32_at}
-use Rattle.sections.specs.File.{section_of}
 use Rattle.records.specs.Records.{rows_of, reservoir_count, reservoir_record, reservoir_of, reservoirs_of, right_count, right_record, right_of, rights_of, basin_of, bodies}
+use Rattle.records.specs.declared.bodies.Bodies.{Bodies}
+use Rattle.records.specs.Bodies.{basin_in, BodiesOf}
 use Rattle.records.proofs.Rows.{rows_are}
-use Rattle.records.proofs.Decoded.{basin-bodies, reservoirs-are, rights-are}
+use Rattle.records.proofs.Decoded.{basin-same, reservoirs-are, rights-are}
 use Rattle.places.specs.Board.{month_at, storage_at, marks_at, taken_at, due_at, word_at, taken_place, dues_of, due_place, words_from, word_place, board_length}
 use Rattle.boards.specs.Board.{possible, storage_sum, due_sum}
 use Rattle.boards.specs.Bodies.{storage_most, taken_most, storages_ok, taken_ok, dues_ok, words_ok, held_ok, row_ok, have_bits, Counted, Sized}
@@ -125,30 +126,29 @@ pub possible-bodies : (st rs ps ri board : List ℕ)
 unfolding bodies possible storages_ok storage_most taken_ok taken_most dues_ok words_ok
 possible-bodies st rs ps ri board = rw (reservoirs-are rs, rows_are st, rights-are ri)
 
--- at the sections of a file, whatever answers for every list of patterns answers for the file's
-pub possible-told : (f board : List ℕ) {st rs ri : List ℕ} {r : Bool} → st ≡ section_of f 0 → rs ≡ section_of f 1 → ri ≡ section_of f 3
-    → ((ps : List ℕ) → r ≡ possible (bodies st rs ps ri) board) → r ≡ possible (basin_of f) board
-possible-told f board e₀ e₁ e₃ h = h (section_of f 2) ∙ (λ z. possible (bodies (e₀ z) (e₁ z) (section_of f 2) (e₃ z)) board) ∙ ap (λ (b : Basin). possible b board) (sym (basin-bodies f))
+-- by the bodies of a file, and by the file
+pub possible-told : (f : List ℕ) (w : Bodies) (board : List ℕ) {r : Bool} → BodiesOf f w → r ≡ possible (basin_in w) board → r ≡ possible (basin_of f) board
+possible-told f w board o h = h ∙ ap (λ (b : Basin). possible b board) (basin-same f w o)
 
--- ---- the bodies of a file whose basin is accepted
+-- ---- the bodies of an accepted basin
 
-pub counted : (f : List ℕ) → Accepted (basin_of f) → Counted (section_of f 0) (section_of f 1) (section_of f 3)
-unfolding basin_of bodies
-counted f a = record {
-  rows_in = omega (arith, a.few_rows, rows_are (section_of f 0));
-  reservoirs_in = omega (arith, a.few_reservoirs, reservoirs-are (section_of f 1));
-  rights_in = omega (arith, a.few_rights, rights-are (section_of f 3));
+pub counted : (w : Bodies) → Accepted (basin_in w) → Counted w
+unfolding bodies
+counted w a = record {
+  rows_in = omega (arith, a.few_rows, rows_are w.stations.now);
+  reservoirs_in = omega (arith, a.few_reservoirs, reservoirs-are w.reservoirs.now);
+  rights_in = omega (arith, a.few_rights, rights-are w.rights.now);
 }
 
-pub sized : (f board : List ℕ) → Accepted (basin_of f) → length board ≡ board_length → Sized (section_of f 0) (section_of f 1) (section_of f 3) board
-sized f board a fits = let n = counted f a in record { rows_in = n.rows_in; reservoirs_in = n.reservoirs_in; rights_in = n.rights_in; board_long = fits }
+pub sized : (w : Bodies) (board : List ℕ) → Accepted (basin_in w) → length board ≡ board_length → Sized w board
+sized w board a fits = let n = counted w a in record { rows_in = n.rows_in; reservoirs_in = n.reservoirs_in; rights_in = n.rights_in; board_long = fits }
 
 -- ---- the sums, by body
 
-pub storage-told : (f board : List ℕ) → sum_to (reservoir_count (section_of f 1)) (storage_at board) ≡ storage_sum (basin_of f) board
-unfolding storage_sum basin_of bodies
-storage-told f board = rw (reservoirs-are (section_of f 1))
+pub storage-told : (f : List ℕ) (w : Bodies) (board : List ℕ) {n : ℕ} → BodiesOf f w → n ≡ reservoir_count w.reservoirs.now → sum_to n (storage_at board) ≡ storage_sum (basin_of f) board
+unfolding storage_sum bodies
+storage-told f w board o e = ap (λ (k : ℕ). sum_to k (storage_at board)) (e ∙ sym (reservoirs-are w.reservoirs.now)) ∙ ap (λ (b : Basin). storage_sum b board) (basin-same f w o)
 
-pub due-told : (f board : List ℕ) → sum_to (rows_of (section_of f 0)) (λ w. sum_to 11 (λ k. due_at board w (suc k))) ≡ due_sum (basin_of f) board
-unfolding due_sum basin_of bodies
-due-told f board = rw (rows_are (section_of f 0))
+pub due-told : (f : List ℕ) (w : Bodies) (board : List ℕ) {n : ℕ} → BodiesOf f w → n ≡ rows_of w.stations.now → sum_to n (λ u. sum_to 11 (λ k. due_at board u (suc k))) ≡ due_sum (basin_of f) board
+unfolding due_sum bodies
+due-told f w board o e = ap (λ (n : ℕ). sum_to n (λ u. sum_to 11 (λ k. due_at board u (suc k)))) (e ∙ sym (rows_are w.stations.now)) ∙ ap (λ (b : Basin). due_sum b board) (basin-same f w o)

@@ -4,6 +4,7 @@ use Rattle.general.specs.Sums.{only}
 use Rattle.general.specs.Tests.{all_to}
 use Rattle.rules.specs.Basin.{no_reservoir, no_right}
 use Rattle.rules.specs.Theorems.{most_due}
+use Rattle.records.specs.declared.bodies.Bodies.{Bodies}
 use Rattle.records.specs.Records.{rows_of, reservoir_count, reservoirs_of, right_count, rights_of}
 use Rattle.places.specs.Board.{board_length, storage_at, taken_at, due_at, word_at}
 
@@ -45,15 +46,15 @@ have_bits k board from n = all_to n (λ j. ltb (get_or board (from + j) 0) (2 ^ 
 
 -- ---- what an accepted file gives, and with it a board of the right length
 
-pub record Counted (st rs ri : List ℕ) : Type 0 where
-  pub rows_in : rows_of st ≤ 64
-  pub reservoirs_in : reservoir_count rs ≤ 8
-  pub rights_in : right_count ri ≤ 256
+pub record Counted (w : Bodies) : Type 0 where
+  pub rows_in : rows_of w.stations.now ≤ 64
+  pub reservoirs_in : reservoir_count w.reservoirs.now ≤ 8
+  pub rights_in : right_count w.rights.now ≤ 256
 
-pub record Sized (st rs ri board : List ℕ) : Type 0 where
-  pub rows_in : rows_of st ≤ 64
-  pub reservoirs_in : reservoir_count rs ≤ 8
-  pub rights_in : right_count ri ≤ 256
+pub record Sized (w : Bodies) (board : List ℕ) : Type 0 where
+  pub rows_in : rows_of w.stations.now ≤ 64
+  pub reservoirs_in : reservoir_count w.reservoirs.now ≤ 8
+  pub rights_in : right_count w.rights.now ≤ 256
   pub board_long : length board ≡ board_length
 
 -- what a possible board gives to its sums: no storage above the highest capacity that a file may have, no due above that of eleven months

@@ -1,8 +1,9 @@
 // Whether a board is possible in a basin. No loop leaves early: that costs more than it saves, since most boards are good.
-ghost use Rattle.std.specs.Prelude.{◌≡◌, List, ℕ, suc, ◌-◌, ◌≤◌, ◌<◌, ◌^◌, ltb, length};
+ghost use Rattle.std.specs.Prelude.{◌≡◌, ℕ, suc, ◌-◌, ◌≤◌, ◌<◌, ◌^◌, ltb, length};
 ghost use Rattle.general.specs.Tests.{all_to};
 ghost use Rattle.rules.specs.Theorems.{most_due};
-ghost use Rattle.records.specs.Records.{right_count, bodies};
+ghost use Rattle.records.specs.Records.{right_count};
+ghost use Rattle.records.specs.Bodies.{basin_in};
 ghost use Rattle.places.specs.Board.{board_length};
 ghost use Rattle.boards.specs.Board.{possible};
 ghost use Rattle.boards.specs.Bodies.{storage_most, taken_most, storages_ok, held_ok, taken_ok, row_ok, dues_ok, words_ok, have_bits, Sized};
@@ -13,6 +14,7 @@ use places::board::{
     BOARD_LENGTH, DUES, MARKS, MONTH, MONTHS_DUE, WORDS, due_place, dues_of, storage_place,
     taken_place, word_place,
 };
+use records::bodies::Bodies;
 
 // The capacity of a reservoir, or 0 where there is none.
 fn storage_most(reservoirs: &[u8], v: usize) -> u64
@@ -146,16 +148,16 @@ fn words_ok(n: usize, board: &[u64]) -> bool
 
 // A possible board: a month of the year, no storage above capacity, no mark without a reservoir, no right above its limit, no due above what
 // eleven months can send, no short month past the twelfth; zeros where there is no reservoir, right or row. The patterns have no say.
-pub fn is_possible(stations: &[u8], reservoirs: &[u8], rights: &[u8], board: &[u64]) -> bool
-    requires { Sized stations.now reservoirs.now rights.now board.now }
-    ensures { (ps : List ℕ) → result ≡ possible (bodies stations.now reservoirs.now ps rights.now) board.now }
+pub fn is_possible(bodies: &Bodies<'_>, board: &[u64]) -> bool
+    requires { Sized bodies.now board.now }
+    ensures { result ≡ possible (basin_in bodies.now) board.now }
 {
-    let stored = both(board[MONTH] < 12, storages_ok(reservoirs, board));
+    let stored = both(board[MONTH] < 12, storages_ok(bodies.reservoirs, board));
     let marked = both(
         stored,
-        board[MARKS] < power(wide_size(reservoirs.len() / 68)),
+        board[MARKS] < power(wide_size(bodies.reservoir_count())),
     );
-    let taken = both(marked, taken_ok(rights, board));
-    let due = both(taken, dues_ok(stations.len() / 8, board));
-    both(due, words_ok(rights.len() / 76, board))
+    let taken = both(marked, taken_ok(bodies.rights, board));
+    let due = both(taken, dues_ok(bodies.rows(), board));
+    both(due, words_ok(bodies.right_count(), board))
 }

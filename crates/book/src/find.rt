@@ -7,14 +7,14 @@ ghost use Rattle.book.specs.Book.{book_refusal, lookup_refusal, year_part};
 
 use crate::contents::{book_ok, listed_body};
 use answers::{Answer, judge_file, tell};
+use records::bodies::Bodies;
 use rules::Verdict;
-use sections::{STATIONS, section};
 
 // How many stations the basin has.
 pub fn station_count(file: &[u8]) -> usize
     ensures { result ≡ rows (basin_of file.now) }
 {
-    section(file, STATIONS).len() / 8
+    Bodies::of(file).rows()
 }
 
 // The answer on file and book, whatever the year.

@@ -25,13 +25,15 @@ use Rattle.records.specs.declared.rights.Kind.{Kind}
 use Rattle.records.specs.declared.rights.Kind.TheVariants.{Direct, Project, Instream, Storage}
 use Rattle.records.specs.declared.rights.RightRecord.{RightRecord}
 use Rattle.sections.specs.File.{layout_ok, section_of}
+use Rattle.records.specs.declared.bodies.Bodies.{Bodies}
+use Rattle.records.specs.Bodies.{basin_in, BodiesOf}
 use Rattle.records.specs.Records.{rows_of, stations_of, reservoir_count, reservoir_record, content_at, depth_at, reservoir_of, reservoirs_of, pattern_count, pattern_of, percent_at, patterns_of, right_count, right_record, amount_at, return_row, return_percent, kind_of, right_of, rights_of, bodies, basin_of}
 use Rattle.filerules.specs.FileRules.{way_down, station_ok, contents_rise, areas_ok, depths_ok, surveys_ok, reservoir_plain, reservoir_ok, pattern_ok, limit_ok, heading_ok, below_reservoir, at_reservoir, source_ok, point_ok, each_point_ok, points_ok, diversion_ok, undiverted_ok, returns_ok, amounts_ok, right_ok}
 use Rattle.filecheck.specs.Check.{bodies_verdict, check_of}
 use Rattle.filecheck.specs.Theorems.{AcceptedFacts, LakeAreas}
 use Rattle.sections.proofs.Parts.{laid}
 use Rattle.records.proofs.Counted.{rows-counted, reservoirs-counted, patterns-counted, rights-counted}
-use Rattle.records.proofs.Decoded.{reservoirs-are, reservoir-is, patterns-are, rights-are}
+use Rattle.records.proofs.Decoded.{basin-same, reservoirs-are, reservoir-is, patterns-are, rights-are}
 use Rattle.records.proofs.Rows.{rows_are}
 use Rattle.filecheck.proofs.Faults.{check-refuses, check-goes-on, stations-clear, reservoirs-clear, patterns-clear, rights-clear}
 use Rattle.filerules.proofs.Cases.{all-consumed, returns-shared, few_points}
@@ -266,3 +268,7 @@ accepted-facts f e =
 pub lake-areas : LakeAreas
 unfolding basin_of bodies
 lake-areas f e v h = lake-areas-of (section_of f 0) (section_of f 1) (section_of f 2) (section_of f 3) (clear_of f e) v h
+
+-- the same of its bodies as the code has them
+pub accepted-in : (f : List ℕ) (w : Bodies) → BodiesOf f w → check_of f ≡ Accepted → Acceptable (basin_in w)
+accepted-in f w o e = subst Acceptable (sym (basin-same f w o)) (accepted-facts f e)

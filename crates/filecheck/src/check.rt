@@ -7,28 +7,29 @@ use crate::patterns::check_patterns;
 use crate::reservoirs::check_reservoirs;
 use crate::rights::check_rights;
 use crate::stations::check_stations;
+use records::bodies::Bodies;
 use rules::Verdict;
-use sections::{PATTERNS, RESERVOIRS, RIGHTS, STATIONS, layout_ok, section};
+use sections::layout_ok;
 
 // Stations come first: the rows that later bodies name are then known to be good, and each row below has been found.
-fn check_bodies(stations: &[u8], reservoirs: &[u8], patterns: &[u8], rights: &[u8]) -> Verdict
-    requires { (0 < rows_of stations.now) × (rows_of stations.now ≤ 64) }
-    ensures { result ≡ bodies_verdict stations.now reservoirs.now patterns.now rights.now }
+fn check_bodies(bodies: &Bodies<'_>) -> Verdict
+    requires { (0 < rows_of bodies.now.stations.now) × (rows_of bodies.now.stations.now ≤ 64) }
+    ensures { result ≡ bodies_verdict bodies.now.stations.now bodies.now.reservoirs.now bodies.now.patterns.now bodies.now.rights.now }
 {
     let mut below = [255u8; 64];
-    let on_stations = check_stations(stations, &mut below);
+    let on_stations = check_stations(bodies.stations, &mut below);
     let Verdict::Accepted = on_stations else {
         return on_stations;
     };
-    let on_reservoirs = check_reservoirs(stations, reservoirs);
+    let on_reservoirs = check_reservoirs(bodies.stations, bodies.reservoirs);
     let Verdict::Accepted = on_reservoirs else {
         return on_reservoirs;
     };
-    let on_patterns = check_patterns(patterns);
+    let on_patterns = check_patterns(bodies.patterns);
     let Verdict::Accepted = on_patterns else {
         return on_patterns;
     };
-    check_rights(stations, &below, reservoirs, patterns, rights)
+    check_rights(bodies, &below)
 }
 
 // The verdict on any bytes.
@@ -38,10 +39,5 @@ pub fn check(file: &[u8]) -> Verdict
     if !layout_ok(file) {
         return Verdict::Layout;
     }
-    check_bodies(
-        section(file, STATIONS),
-        section(file, RESERVOIRS),
-        section(file, PATTERNS),
-        section(file, RIGHTS),
-    )
+    check_bodies(&Bodies::of(file))
 }

@@ -9,9 +9,9 @@ ghost use Rattle.fresh.specs.Fresh.{fresh_of, fresh_told, Started};
 use answers::{Answer, judge_file, tell};
 use numbers::wide32;
 use places::board::{BOARD_LENGTH, storage_place};
+use records::bodies::Bodies;
 use records::reservoirs::reservoir_at;
 use rules::Verdict;
-use sections::{RESERVOIRS, section};
 
 // Writes every place, so that nothing of what the board held is left.
 fn clear(board: &mut [u64])
@@ -47,6 +47,6 @@ pub fn fresh(file: &[u8], board: &mut [u64]) -> Answer
         return tell(Verdict::Lists);
     }
     clear(board);
-    store_starts(section(file, RESERVOIRS), board);
+    store_starts(Bodies::of(file).reservoirs, board);
     tell(Verdict::Accepted)
 }

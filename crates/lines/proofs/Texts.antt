@@ -11,6 +11,8 @@ use Rattle.general.specs.Sums.{sum_to}
 use Rattle.numbers.specs.Bytes.{le32_at}
 use Rattle.rules.specs.Basin.{Right}
 use Rattle.records.specs.Records.{rows_of, reservoir_count, right_count, right_record, right_of, rights_of, bodies}
+use Rattle.records.specs.declared.bodies.Bodies.{Bodies}
+use Rattle.records.specs.Bodies.{basin_in}
 use Rattle.records.proofs.Decoded.{right_is, reservoirs-are, rights-are}
 use Rattle.places.specs.Board.{storage_at, due_at}
 use Rattle.boards.specs.Board.{storage_sum, due_sum}
@@ -184,19 +186,33 @@ refusal-put number place x y z = word-then refused_word space x (word-then (deci
 
 -- ---- the month
 
-module _ (st rs ps ri report board o o' o'' : List ℕ) (month at p r x y z : ℕ) where
-  pub month-put : Put 32256 at (right_lines month (rights_of ri) report (right_count ri)) o o' p
-      → x ≡ sum_to (reservoir_count rs) (λ v. get_or report (evaporation_place (right_count ri) (rows_of st) v) 0)
-      → y ≡ sum_to (reservoir_count rs) (storage_at board)
-      → z ≡ sum_to (rows_of st) (λ w. sum_to 11 (λ k. due_at board w (suc k)))
-      → Put 109 p (end_line month (get_or report (flow_place (right_count ri) (rows_of st - 1)) 0) x y z) o' o'' r
-      → Put most_text at (month_text (bodies st rs ps ri) month report board) o o'' r
+-- by the bodies, and by their counts as they were made
+module _ (w : Bodies) (report board o o' o'' : List ℕ) (month at p r x y z : ℕ) where
+  abbrev Listed : ℕ → ℕ → ℕ → Type 0
+  Listed l k n =
+      (x ≡ sum_to n (λ v. get_or report (evaporation_place l k v) 0)) × (y ≡ sum_to n (storage_at board)) × (z ≡ sum_to k (λ u. sum_to 11 (λ j. due_at board u (suc j))))
+      × Put 109 p (end_line month (get_or report (flow_place l (k - 1)) 0) x y z) o' o'' r
+
+  month-whole : Put 32256 at (right_lines month (rights_of w.rights.now) report (right_count w.rights.now)) o o' p
+      → Listed (right_count w.rights.now) (rows_of w.stations.now) (reservoir_count w.reservoirs.now)
+      → Put most_text at (month_text (basin_in w) month report board) o o'' r
   unfolding month_text outflow_in evaporation_in bodies storage_sum due_sum
-  month-put lines ex ey ez end = record {
+  month-whole lines (ex, ey, ez, end) = record {
     put =
-        end.put ∙ ap (λ (l : List ℕ). l ++ end_line month (get_or report (flow_place (right_count ri) (rows_of st - 1)) 0) x y z) lines.put
-        ∙ append_assoc (take at o) (right_lines month (rights_of ri) report (right_count ri)) (end_line month (get_or report (flow_place (right_count ri) (rows_of st - 1)) 0) x y z)
-        ∙ rw (rights-are ri, reservoirs-are rs, rows_are st)
-        (λ i. take at o ++ (right_lines month (rights_of ri) report (right_count ri) ++ end_line month (get_or report (flow_place (right_count ri) (rows_of st - 1)) 0) (ex i) (ey i) (ez i)));
+        end.put ∙ ap (λ (l : List ℕ). l ++ end_line month (get_or report (flow_place (right_count w.rights.now) (rows_of w.stations.now - 1)) 0) x y z) lines.put
+        ∙ append_assoc (take at o) (right_lines month (rights_of w.rights.now) report (right_count w.rights.now)) (end_line month (get_or report (flow_place (right_count w.rights.now) (rows_of w.stations.now - 1)) 0) x y z)
+        ∙ rw (rights-are w.rights.now, reservoirs-are w.reservoirs.now, rows_are w.stations.now)
+        (λ i. take at o ++ (right_lines month (rights_of w.rights.now) report (right_count w.rights.now) ++ end_line month (get_or report (flow_place (right_count w.rights.now) (rows_of w.stations.now - 1)) 0) (ex i) (ey i) (ez i)));
     within = omega (arith, lines.within, end.within);
   }
+
+  pub month-put : {l k n : ℕ} → l ≡ right_count w.rights.now → k ≡ rows_of w.stations.now → n ≡ reservoir_count w.reservoirs.now
+      → Put 32256 at (right_lines month (rights_of w.rights.now) report (right_count w.rights.now)) o o' p
+      → x ≡ sum_to n (λ v. get_or report (evaporation_place l k v) 0)
+      → y ≡ sum_to n (storage_at board)
+      → z ≡ sum_to k (λ u. sum_to 11 (λ j. due_at board u (suc j)))
+      → Put 109 p (end_line month (get_or report (flow_place l (k - 1)) 0) x y z) o' o'' r
+      → Put most_text at (month_text (basin_in w) month report board) o o'' r
+  month-put {l} {k} {n} el ek en lines ex ey ez end =
+      month-whole lines (subst (λ (m : ℕ). Listed (right_count w.rights.now) (rows_of w.stations.now) m) en
+      (subst (λ (m : ℕ). Listed (right_count w.rights.now) m n) ek (subst (λ (m : ℕ). Listed m k n) el (ex, ey, ez, end))))

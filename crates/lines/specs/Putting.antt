@@ -1,6 +1,7 @@
 -- What the functions that put text into a lent list of bytes ask and promise.
 use Rattle.std.specs.Prelude.{List, ◌++◌, ◌≡◌, ℕ, ◌+◌, ◌≤◌, ◌<◌, length, get_or, take}
 use Rattle.places.specs.Report.{evaporation_place, report_end}
+use Rattle.records.specs.declared.bodies.Bodies.{Bodies}
 use Rattle.records.specs.Records.{rows_of, reservoir_count, right_count}
 use Rattle.boards.specs.Bodies.{Bounded}
 
@@ -20,12 +21,12 @@ abbrev pub most_text : ℕ
 most_text = 32_365
 
 -- what the text of a month asks for, of the bodies of an accepted file, the board that the month left and its report
-pub record CanList (st rs ri board report out : List ℕ) (at : ℕ) : Type 0 where
-  pub few : right_count ri ≤ 256
-  pub some_row : 0 < rows_of st
-  pub few_rows : rows_of st ≤ 64
-  pub few_reservoirs : reservoir_count rs ≤ 8
-  pub told : report_end (right_count ri) (rows_of st) (reservoir_count rs) ≤ length report
-  pub small : (v : ℕ) → v < reservoir_count rs → get_or report (evaporation_place (right_count ri) (rows_of st) v) 0 ≤ 2_000_000_000
+pub record CanList (w : Bodies) (board report out : List ℕ) (at : ℕ) : Type 0 where
+  pub few : right_count w.rights.now ≤ 256
+  pub some_row : 0 < rows_of w.stations.now
+  pub few_rows : rows_of w.stations.now ≤ 64
+  pub few_reservoirs : reservoir_count w.reservoirs.now ≤ 8
+  pub told : report_end (right_count w.rights.now) (rows_of w.stations.now) (reservoir_count w.reservoirs.now) ≤ length report
+  pub small : (v : ℕ) → v < reservoir_count w.reservoirs.now → get_or report (evaporation_place (right_count w.rights.now) (rows_of w.stations.now) v) 0 ≤ 2_000_000_000
   pub bounded : Bounded board
   pub room : at + most_text ≤ length out

@@ -1,8 +1,9 @@
 // The lines of a month: one for each right, and the end line.
-ghost use Rattle.std.specs.Prelude.{◌≡◌, List, ℕ, ◌+◌, ◌*◌, ◌≤◌, ◌<◌, length, get_or};
+ghost use Rattle.std.specs.Prelude.{◌≡◌, ℕ, ◌+◌, ◌*◌, ◌≤◌, ◌<◌, length, get_or};
 ghost use Rattle.general.specs.Sums.{sum_to};
 ghost use Rattle.places.specs.Report.{lines_end};
-ghost use Rattle.records.specs.Records.{right_count, right_of, rights_of, bodies};
+ghost use Rattle.records.specs.Records.{right_count, right_of, rights_of};
+ghost use Rattle.records.specs.Bodies.{basin_in};
 ghost use Rattle.listing.specs.Listing.{right_line, right_lines, end_line, month_text};
 ghost use Rattle.lines.specs.Putting.{most_text, CanList, Put};
 
@@ -11,6 +12,7 @@ use boards::sums::{due_sum, storage_sum};
 use numbers::bytes::le32;
 use numbers::wide32;
 use places::report::{FROM_STORAGE, REASON, STATION, flow_place, line_place, rows_end};
+use records::bodies::Bodies;
 
 // The most bytes that the text of a month has.
 pub const MOST_TEXT: usize = 32365;
@@ -87,19 +89,17 @@ pub fn put_month(
     out: &mut [u8],
     at: usize,
     month: u64,
-    stations: &[u8],
-    reservoirs: &[u8],
-    rights: &[u8],
+    bodies: &Bodies<'_>,
     board: &[u64],
     report: &[u64],
 ) -> usize
-    requires { CanList stations.now reservoirs.now rights.now board.now report.now out.old at }
-    ensures { (ps : List ℕ) → Put most_text at (month_text (bodies stations.now reservoirs.now ps rights.now) month report.now board.now) out.old out.new result }
+    requires { CanList bodies.now board.now report.now out.old at }
+    ensures { Put most_text at (month_text (basin_in bodies.now) month report.now board.now) out.old out.new result }
 {
-    let rows = stations.len() / 8;
-    let n = reservoirs.len() / 68;
-    let lines = rights.len() / 76;
-    let end = put_rights(out, at, month, rights, report);
+    let rows = bodies.rows();
+    let n = bodies.reservoir_count();
+    let lines = bodies.right_count();
+    let end = put_rights(out, at, month, bodies.rights, report);
     let outflow = report[flow_place(lines, rows - 1)];
     let evaporation = evaporation_sum(report, rows_end(lines, rows), n);
     let storage = storage_sum(n, board);

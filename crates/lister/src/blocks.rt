@@ -7,13 +7,13 @@ ghost use Rattle.lister.specs.Lister.{CanListBlock, CanListRest, BlockListed, Sh
 use crate::parts::list_part;
 use crate::{Listed, Progress};
 use lines::month_lines::MOST_TEXT;
-use sections::{STATIONS, section};
+use records::bodies::Bodies;
 
 // The bytes of one sheet.
 pub fn sheet_size(file: &[u8]) -> usize
     ensures { result ≡ sheet_bytes (basin_of file.now) }
 {
-    4 * (section(file, STATIONS).len() / 8)
+    4 * Bodies::of(file).rows()
 }
 
 // The whole sheets of a block, until one ends the listing or the next month's text might not fit.

@@ -12,8 +12,8 @@ use answers::{Answer, tell};
 use lines::frame::put_refusal;
 use lines::month_lines::put_month;
 use month::run::run_sheet;
+use records::bodies::Bodies;
 use rules::Verdict;
-use sections::{PATTERNS, RESERVOIRS, RIGHTS, STATIONS, section};
 use sheets::decode;
 
 // A refusal is the last line of a listing.
@@ -41,27 +41,13 @@ fn list_sheet(
     requires { CanStep file.now from board.old report.old out.old × (length sheet.now ≡ sheet_bytes (basin_of file.now)) × (length runoff.old ≡ rows (basin_of file.now)) }
     ensures { Stepped file.now sheet.now from board.old out.old board.new out.new result }
 {
-    let stations = section(file, STATIONS);
-    let reservoirs = section(file, RESERVOIRS);
-    let patterns = section(file, PATTERNS);
-    let rights = section(file, RIGHTS);
+    let bodies = Bodies::of(file);
     decode(sheet, runoff);
-    let answer = run_sheet(
-        stations, reservoirs, patterns, rights, runoff, board, report,
-    );
+    let answer = run_sheet(&bodies, runoff, board, report);
     if answer.number != 0 {
         return refuse(out, from, answer);
     }
-    let at = put_month(
-        out,
-        from.at,
-        from.months,
-        stations,
-        reservoirs,
-        rights,
-        board,
-        report,
-    );
+    let at = put_month(out, from.at, from.months, &bodies, board, report);
     Progress {
         months: from.months + 1,
         at: at,
@@ -89,7 +75,7 @@ pub fn list_part(
             more: false,
         };
     }
-    let n = section(file, STATIONS).len() / 8;
+    let n = Bodies::of(file).rows();
     if left != 4 * n {
         return refuse(out, from, tell(Verdict::Lists));
     }

@@ -16,7 +16,6 @@ use Rattle.rules.specs.Answers.{Answer}
 use Rattle.rules.proofs.Areas.{area-within}
 use Rattle.rules.specs.Tally.{over_limit, over_answer}
 use Rattle.boards.specs.Board.{possible}
-use Rattle.records.specs.Records.{bodies}
 use Rattle.answers.specs.Answers.{settled}
 use Rattle.places.specs.Report.{evaporation_place}
 use Rattle.month.specs.Month.{run_of, Outcome, month_settled}
@@ -28,10 +27,7 @@ use Rattle.month.proofs.Settling.{clear-over, within-limit}
 
 -- ---- the contract, case by case
 
-module _ (st rs ps ri runoff bd rp : List ℕ) (c : CanRunSheet st rs ps ri runoff bd rp) where
-  abbrev b : Basin
-  b = bodies st rs ps ri
-
+module _ (b : Basin) (runoff bd rp : List ℕ) (c : CanRunSheet b runoff bd rp) where
   pub stays : (a : Answer) → a ≡ settled (over_answer (over_limit runoff)) → (a.number ≡ 0 → ⊥) → SheetRan b runoff bd rp (record { answer = a; board = bd; report = rp })
   unfolding month_settled
   stays a e n = sym (rw (settled-some (over_answer (over_limit runoff)) a e n))
@@ -40,7 +36,7 @@ module _ (st rs ps ri runoff bd rp : List ℕ) (c : CanRunSheet st rs ps ri runo
     none_over : over_limit runoff ≡ None
     none_over = clear-over (over_limit runoff) (ap (λ (x : Answer). x.number) (sym e) ∙ n)
 
-    pub may-run : CanRun st rs ps ri runoff bd rp
+    pub may-run : CanRun b runoff bd rp
     may-run = record { accepted = c.accepted; sheet = c.sheet; small = within-limit runoff none_over; size = c.size; can = c.can; room = c.room }
 
     clear : over_answer (over_limit runoff) ≡ None

@@ -17,6 +17,8 @@ use Rattle.rules.specs.Basin.{Basin, rows}
 use Rattle.rules.specs.Month.{opening, next_month}
 use Rattle.rules.specs.Theorems.{most_due}
 use Rattle.records.specs.Records.{rows_of, stations_of, reservoir_count, right_count, pattern_count, pattern_of, patterns_of, bodies}
+use Rattle.records.specs.declared.bodies.Bodies.{Bodies}
+use Rattle.records.specs.Bodies.{basin_in}
 use Rattle.records.specs.Table.{table_of, sums_of, sixteen_sums}
 use Rattle.turns.specs.Lines.{CanServe, Served}
 use Rattle.closing.specs.Losses.{Lost}
@@ -119,34 +121,34 @@ module _ (b : Basin) (acc : Accepted b) (bd : List ℕ) (can : possible b bd ≡
 
 -- ---- the steps
 
-module _ (st rs ps ri runoff bd rp : List ℕ) (c : CanRun st rs ps ri runoff bd rp) where
-  pub run-rows : rows_of st ≤ 64
-  run-rows = omega (arith, bodies-rows st rs ps ri, c.accepted.few_rows)
+module _ (w : Bodies) (runoff bd rp : List ℕ) (c : CanRun (basin_in w) runoff bd rp) where
+  pub run-rows : rows_of w.stations.now ≤ 64
+  run-rows = omega (arith, bodies-rows w, c.accepted.few_rows)
 
-  pub run-patterns : (pattern_count ps ≤ 16) × ((p : ℕ) → p < pattern_count ps → sum (pattern_of ps p) ≤ 100)
+  pub run-patterns : (pattern_count w.patterns.now ≤ 16) × ((p : ℕ) → p < pattern_count w.patterns.now → sum (pattern_of w.patterns.now p) ≤ 100)
   unfolding bodies
   run-patterns = (
-    omega (arith, patterns-are ps, c.accepted.few_patterns),
-    λ p h. omega (arith, (all-at-place GoodPattern (patterns_of ps) [] c.accepted.patterns_good p (omega (arith, h, patterns-are ps))).sum_most, ap sum (pattern-is ps p h)),
+    omega (arith, patterns-are w.patterns.now, c.accepted.few_patterns),
+    λ p h. omega (arith, (all-at-place GoodPattern (patterns_of w.patterns.now) [] c.accepted.patterns_good p (omega (arith, h, patterns-are w.patterns.now))).sum_most, ap sum (pattern-is w.patterns.now p h)),
   )
 
   pub can-open : CanOpen (length runoff) bd
   can-open = record {
     size = c.size;
     few = omega (arith, c.sheet, c.accepted.few_rows);
-    empty = λ p h l. none-due (bodies st rs ps ri) c.accepted bd c.can c.size p (omega (arith, h, c.sheet)) l;
+    empty = λ p h l. none-due (basin_in w) c.accepted bd c.can c.size p (omega (arith, h, c.sheet)) l;
   }
 
-module _ (st rs ps ri runoff bd rp : List ℕ) (c : CanRun st rs ps ri runoff bd rp) (t : List ℕ) (et : t ≡ table_of (stations_of st)) (pa : List (List ℕ)) (epa : pa ≡ sixteen_sums ps) where
+module _ (w : Bodies) (runoff bd rp : List ℕ) (c : CanRun (basin_in w) runoff bd rp) (t : List ℕ) (et : t ≡ table_of (stations_of w.stations.now)) (pa : List (List ℕ)) (epa : pa ≡ sixteen_sums w.patterns.now) where
   abbrev b : Basin
-  b = bodies st rs ps ri
+  b = basin_in w
 
-  pub setting : Setting b st t rs pa ri
+  pub setting : Setting b w.stations.now t w.reservoirs.now pa w.rights.now
   unfolding bodies
-  setting = record { accepted = c.accepted; stations = refl; table = et; reservoirs = refl; patterns = λ k h. ap (λ (x : List (List ℕ)). get_or x k []) epa ∙ sixteen ps k h; rights = refl }
+  setting = record { accepted = c.accepted; stations = refl; table = et; reservoirs = refl; patterns = λ k h. ap (λ (x : List (List ℕ)). get_or x k []) epa ∙ sixteen w.patterns.now k h; rights = refl }
 
-  few_rows : rows_of st ≤ 64
-  few_rows = omega (arith, bodies-rows st rs ps ri, c.accepted.few_rows)
+  few_rows : rows_of w.stations.now ≤ 64
+  few_rows = omega (arith, bodies-rows w, c.accepted.few_rows)
 
   inflow-small : (j : ℕ) → inflow runoff bd j ≤ most_inflow
   inflow-small j = omega (arith, c.small j, board-low b c.accepted bd c.can c.size (due_place j 0))
@@ -171,7 +173,7 @@ module _ (st rs ps ri runoff bd rp : List ℕ) (c : CanRun st rs ps ri runoff bd
     month-is : m ≡ month_at bd
     month-is = em ∙ ap month_at e₁ ∙ opened-month bd
 
-    pub can-serve : CanServe st t rs pa ri m f a sh bd₁ rp
+    pub can-serve : CanServe w.stations.now t w.reservoirs.now pa w.rights.now m f a sh bd₁ rp
     can-serve = record {
       basin = b;
       setting = setting;
@@ -180,7 +182,7 @@ module _ (st rs ps ri runoff bd rp : List ℕ) (c : CanRun st rs ps ri runoff bd
       board = subst (λ (x : List ℕ). BoardOk x 1000000000000000000) (sym e₁) (record { size = opened-length bd; room = record { room = opened-small b c.accepted bd c.can c.size } });
       marks = marks;
       within = subst (Within b) (sym e₁) (opened-within b c.accepted bd c.can c.size);
-      lines = omega (arith, c.room, bodies-rights st rs ps ri);
+      lines = omega (arith, c.room, bodies-rights w);
     }
 
     start : state_of b f a sh (opened bd) ≡ opening b (carried_of b bd) runoff (tab (rows b) (λ u. due_at bd u 1))
@@ -193,33 +195,33 @@ module _ (st rs ps ri runoff bd rp : List ℕ) (c : CanRun st rs ps ri runoff bd
       month₂ : month_at bd₂ ≡ m
       month₂ = q₁.month ∙ sym em
 
-      pub can-end : CanEnd rs (right_count ri) (rows_of st) bd₂ rp₁
-      can-end = record {
-        few = omega (arith, bodies-reservoirs st rs ps ri, c.accepted.few_reservoirs);
+      pub can-end : {n k : ℕ} → n ≡ right_count w.rights.now → k ≡ rows_of w.stations.now → CanEnd w.reservoirs.now n k bd₂ rp₁
+      can-end en ek = rw (en, ek) (record {
+        few = omega (arith, bodies-reservoirs w, c.accepted.few_reservoirs);
         in-year = omega (arith, month₂, month-is, month-most b bd c.can);
         size = q.size ∙ opened-length bd;
         tell = record {
-          few_rights = omega (arith, bodies-rights st rs ps ri, c.accepted.few_rights);
+          few_rights = omega (arith, bodies-rights w, c.accepted.few_rights);
           few = few_rows;
-          places = omega (arith, c.room, bodies-rights st rs ps ri, bodies-rows st rs ps ri, q.lines.size);
+          places = omega (arith, c.room, bodies-rights w, bodies-rows w, q.lines.size);
         };
-        words = λ i h. word_fits b st t rs pa ri setting runoff bd c.can f a sh start m month-is rp f₂ a₂ sh₂ bd₂ rp₁ k q i (omega (arith, h, bodies-rights st rs ps ri));
-        places = omega (arith, c.room, bodies-rights st rs ps ri, bodies-rows st rs ps ri, bodies-reservoirs st rs ps ri, q.lines.size);
-      }
+        words = λ i h. word_fits b w.stations.now t w.reservoirs.now pa w.rights.now setting runoff bd c.can f a sh start m month-is rp f₂ a₂ sh₂ bd₂ rp₁ k q i (omega (arith, h, bodies-rights w));
+        places = omega (arith, c.room, bodies-rights w, bodies-rows w, bodies-reservoirs w, q.lines.size);
+      })
 
       -- the counts by the basin
-      ended : (bd₄ rp₄ : List ℕ) (x : ℕ) → Ended rs (right_count ri) (rows_of st) f₂ a₂ k bd₂ rp₁ bd₄ rp₄ x → Ended rs (length b.rights) (rows b) f₂ a₂ k bd₂ rp₁ bd₄ rp₄ x
-      ended bd₄ rp₄ x z = rw (bodies-rights st rs ps ri, bodies-rows st rs ps ri) z
+      ended : {n rows' : ℕ} → n ≡ right_count w.rights.now → rows' ≡ rows_of w.stations.now → (bd₄ rp₄ : List ℕ) (x : ℕ) → Ended w.reservoirs.now n rows' f₂ a₂ k bd₂ rp₁ bd₄ rp₄ x → Ended w.reservoirs.now (length b.rights) (rows b) f₂ a₂ k bd₂ rp₁ bd₄ rp₄ x
+      ended en er bd₄ rp₄ x z = rw (bodies-rights w, bodies-rows w, sym en, sym er) z
 
-      pub ran : (bd₄ rp₄ : List ℕ) (shorts : ℕ) → Ended rs (right_count ri) (rows_of st) f₂ a₂ k bd₂ rp₁ bd₄ rp₄ shorts → Ran b runoff bd rp bd₄ rp₄ shorts
-      ran bd₄ rp₄ shorts x =
-          let z = ended bd₄ rp₄ shorts x in
+      pub ran : {n rows' : ℕ} → n ≡ right_count w.rights.now → rows' ≡ rows_of w.stations.now → (bd₄ rp₄ : List ℕ) (shorts : ℕ) → Ended w.reservoirs.now n rows' f₂ a₂ k bd₂ rp₁ bd₄ rp₄ shorts → Ran b runoff bd rp bd₄ rp₄ shorts
+      ran en er bd₄ rp₄ shorts x =
+          let z = ended en er bd₄ rp₄ shorts x in
           let at : ℕ = rows_end (length b.rights) (rows b) in
           let rp₃ : List ℕ = z.losses_told in
           let e : WordsNoted m (length b.rights) rp₁ bd₂ z.noted = subst (λ (y : ℕ). WordsNoted y (length b.rights) rp₁ bd₂ z.noted) month₂ z.words_noted in
-          let l : Lost rs m (reservoir_count rs) z.noted z.told at z.lowered rp₃ = subst (λ (y : ℕ). Lost rs y (reservoir_count rs) z.noted z.told at z.lowered rp₃) month₂ z.lost in
+          let l : Lost w.reservoirs.now m (reservoir_count w.reservoirs.now) z.noted z.told at z.lowered rp₃ = subst (λ (y : ℕ). Lost w.reservoirs.now y (reservoir_count w.reservoirs.now) z.noted z.told at z.lowered rp₃) month₂ z.lost in
           record {
-            board = board-left b st t rs pa ri setting runoff bd c.can f a sh start m month-is rp f₂ a₂ sh₂ bd₂ rp₁ k q z.noted e z.told at z.lowered rp₃ l bd₄ (z.gone_on ∙ ap (λ (y : ℕ). set z.lowered month_place (next_month y)) month₂);
-            report = report-left b st t rs pa ri setting runoff bd c.can f a sh start m month-is rp f₂ a₂ sh₂ bd₂ rp₁ k q c.room z.told z.rows_told z.noted (λ v o. e.front (storage_place v) (omega arith)) z.lowered rp₃ l rp₄ z.deep_told;
-            shorts = z.counted ∙ shorts-told b st t rs pa ri setting runoff bd c.can f a sh start m month-is rp f₂ a₂ sh₂ bd₂ rp₁ k q;
+            board = board-left b w.stations.now t w.reservoirs.now pa w.rights.now setting runoff bd c.can f a sh start m month-is rp f₂ a₂ sh₂ bd₂ rp₁ k q z.noted e z.told at z.lowered rp₃ l bd₄ (z.gone_on ∙ ap (λ (y : ℕ). set z.lowered month_place (next_month y)) month₂);
+            report = report-left b w.stations.now t w.reservoirs.now pa w.rights.now setting runoff bd c.can f a sh start m month-is rp f₂ a₂ sh₂ bd₂ rp₁ k q c.room z.told z.rows_told z.noted (λ v o. e.front (storage_place v) (omega arith)) z.lowered rp₃ l rp₄ z.deep_told;
+            shorts = z.counted ∙ shorts-told b w.stations.now t w.reservoirs.now pa w.rights.now setting runoff bd c.can f a sh start m month-is rp f₂ a₂ sh₂ bd₂ rp₁ k q;
           }

@@ -14,12 +14,13 @@ use Rattle.general.proofs.Tests.{ltb_yes, ltb_no, not-lt-of, eq_of, le_of, both_
 use Rattle.general.proofs.Search.{first-none}
 use Rattle.rules.specs.Basin.{Basin, rows}
 use Rattle.rules.specs.declared.Verdict.TheVariants.{Runoff}
-use Rattle.sections.specs.File.{section_of}
 use Rattle.records.specs.Records.{rows_of, reservoir_count, right_count, basin_of, bodies}
+use Rattle.records.specs.declared.bodies.Bodies.{Bodies}
+use Rattle.records.specs.Bodies.{basin_in, BodiesOf}
 use Rattle.filecheck.proofs.Accepted.{accepted-facts}
 use Rattle.records.proofs.Rows.{rows_are}
 use Rattle.places.specs.Report.{report_end}
-use Rattle.records.proofs.Decoded.{basin-bodies, reservoirs-are, rights-are}
+use Rattle.records.proofs.Decoded.{basin-same, reservoirs-are, rights-are}
 use Rattle.places.specs.Board.{board_length}
 use Rattle.rules.specs.Answers.{Answer, told, or_else}
 use Rattle.rules.specs.Tally.{most_runoff, report_length, lists_fit, over_limit, over_answer}
@@ -32,16 +33,15 @@ use Rattle.month.specs.Run.{CanRunSheet, SheetRan}
 
 -- ---- the lists, by the bodies
 
-pub lists-bodies : (st rs ps ri runoff board report : List ℕ)
-    → (eqb (length runoff) (rows_of st) and leb (report_end (right_count ri) (rows_of st) (reservoir_count rs)) (length report) and eqb (length board) board_length) ≡ all_fit (bodies st rs ps ri) runoff board report
+pub lists-bodies : (w : Bodies) (runoff board report : List ℕ)
+    → (eqb (length runoff) (rows_of w.stations.now) and leb (report_end (right_count w.rights.now) (rows_of w.stations.now) (reservoir_count w.reservoirs.now)) (length report) and eqb (length board) board_length)
+    ≡ all_fit (basin_in w) runoff board report
 unfolding bodies all_fit lists_fit
-lists-bodies st rs ps ri runoff board report = rw (reservoirs-are rs, rows_are st, rights-are ri)
+lists-bodies w runoff board report = rw (reservoirs-are w.reservoirs.now, rows_are w.stations.now, rights-are w.rights.now)
 
--- at the sections of a file, whatever answers for every list of patterns answers for the file's
-pub lists-told : (f runoff board report : List ℕ) {st rs ri : List ℕ} {r : Bool} → st ≡ section_of f 0 → rs ≡ section_of f 1 → ri ≡ section_of f 3
-    → ((ps : List ℕ) → r ≡ all_fit (bodies st rs ps ri) runoff board report) → r ≡ all_fit (basin_of f) runoff board report
-lists-told f runoff board report e₀ e₁ e₃ h =
-    h (section_of f 2) ∙ (λ z. all_fit (bodies (e₀ z) (e₁ z) (section_of f 2) (e₃ z)) runoff board report) ∙ ap (λ (b : Basin). all_fit b runoff board report) (sym (basin-bodies f))
+-- by the bodies of a file, and by the file
+pub lists-told : (f : List ℕ) (w : Bodies) (runoff board report : List ℕ) {r : Bool} → BodiesOf f w → r ≡ all_fit (basin_in w) runoff board report → r ≡ all_fit (basin_of f) runoff board report
+lists-told f w runoff board report o h = h ∙ ap (λ (b : Basin). all_fit b runoff board report) (basin-same f w o)
 
 pub fits-parts : (b : Basin) (runoff board report : List ℕ) → all_fit b runoff board report ≡ true → (length runoff ≡ rows b) × (report_length b ≤ length report) × (length board ≡ board_length)
 unfolding all_fit lists_fit
@@ -119,18 +119,17 @@ module _ (f runoff board report : List ℕ) where
     unfolding month_refusal or_else
     only-runoff = rw (lent_none f fits board k.file-ok k.lists-ok k.board-ok)
 
-    can-go : CanRunSheet (section_of f 0) (section_of f 1) (section_of f 2) (section_of f 3) runoff board report
-    unfolding basin_of bodies
+    can-go : CanRunSheet (basin_of f) runoff board report
     can-go = let p = fits-parts (basin_of f) runoff board report k.lists-ok in record { accepted = accepted-facts f k.file-ok; sheet = p.0; size = p.2; can = k.board-ok; room = p.1 }
 
     went : (o : Outcome) → SheetRan (basin_of f) runoff board report o → MonthMeets f runoff board report o
     unfolding month_of
     went o w = w ∙ ap (λ (v : Option Answer). month_settled v (basin_of f) runoff board report) (sym only-runoff)
 
-    -- at the parts of the file as the code has them
-    module _ {st rs ps ri : List ℕ} (e₀ : st ≡ section_of f 0) (e₁ : rs ≡ section_of f 1) (e₂ : ps ≡ section_of f 2) (e₃ : ri ≡ section_of f 3) where
-      pub can-go-at : CanRunSheet st rs ps ri runoff board report
-      can-go-at = rw (e₀, e₁, e₂, e₃) can-go
+    -- by the bodies of the file as the code has them
+    module _ (w : Bodies) (h : BodiesOf f w) where
+      pub can-go-at : CanRunSheet (basin_in w) runoff board report
+      can-go-at = subst (λ (x : Basin). CanRunSheet x runoff board report) (sym (basin-same f w h)) can-go
 
-      pub month-went : (o : Outcome) → SheetRan (bodies st rs ps ri) runoff board report o → MonthMeets f runoff board report o
-      month-went o w = went o (subst (λ (x : Basin). SheetRan x runoff board report o) ((λ z. bodies (e₀ z) (e₁ z) (e₂ z) (e₃ z)) ∙ sym (basin-bodies f)) w)
+      pub month-went : (o : Outcome) → SheetRan (basin_in w) runoff board report o → MonthMeets f runoff board report o
+      month-went o r = went o (subst (λ (x : Basin). SheetRan x runoff board report o) (basin-same f w h) r)

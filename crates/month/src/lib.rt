@@ -6,7 +6,7 @@ ghost use Rattle.month.specs.Month.{MonthMeets, outcome_of};
 use crate::refusals::judge_lent;
 use crate::run::run_sheet;
 use answers::Answer;
-use sections::{PATTERNS, RESERVOIRS, RIGHTS, STATIONS, section};
+use records::bodies::Bodies;
 
 pub mod refusals;
 pub mod run;
@@ -19,13 +19,5 @@ pub fn month(file: &[u8], runoff: &[u32], board: &mut [u64], report: &mut [u64])
     if on_lent.number != 0 {
         return on_lent;
     }
-    run_sheet(
-        section(file, STATIONS),
-        section(file, RESERVOIRS),
-        section(file, PATTERNS),
-        section(file, RIGHTS),
-        runoff,
-        board,
-        report,
-    )
+    run_sheet(&Bodies::of(file), runoff, board, report)
 }

@@ -1,7 +1,8 @@
 // What month turns down, in the order of document 01: first the file, the lists and the board, then the runoff.
-ghost use Rattle.std.specs.Prelude.{◌≡◌, List, ℕ};
+ghost use Rattle.std.specs.Prelude.{◌≡◌};
 ghost use Rattle.rules.specs.Tally.{over_limit, over_answer};
-ghost use Rattle.records.specs.Records.{bodies, basin_of};
+ghost use Rattle.records.specs.Records.{basin_of};
+ghost use Rattle.records.specs.Bodies.{basin_in};
 ghost use Rattle.boards.specs.Bodies.{Counted};
 ghost use Rattle.answers.specs.Answers.{lent_refusal, answer_of, settled};
 ghost use Rattle.month.specs.Month.{all_fit};
@@ -11,26 +12,19 @@ use boards::possible::is_possible;
 use numbers::both;
 use places::board::BOARD_LENGTH;
 use places::report::report_end;
+use records::bodies::Bodies;
 use rules::Verdict;
-use sections::{RESERVOIRS, RIGHTS, STATIONS, section};
 
 // The most that may run off at a row in a month.
 const MOST_RUNOFF: u32 = 1000000000;
 
 // Whether the lists have the lengths that the basin asks for: a runoff number to a station, room for the report, a board's places.
-fn all_fit(
-    stations: &[u8],
-    reservoirs: &[u8],
-    rights: &[u8],
-    runoff: &[u32],
-    board: &[u64],
-    report: &[u64],
-) -> bool
-    requires { Counted stations.now reservoirs.now rights.now }
-    ensures { (ps : List ℕ) → result ≡ all_fit (bodies stations.now reservoirs.now ps rights.now) runoff.now board.now report.now }
+fn all_fit(bodies: &Bodies<'_>, runoff: &[u32], board: &[u64], report: &[u64]) -> bool
+    requires { Counted bodies.now }
+    ensures { result ≡ all_fit (basin_in bodies.now) runoff.now board.now report.now }
 {
-    let rows = stations.len() / 8;
-    let told = report_end(rights.len() / 76, rows, reservoirs.len() / 68);
+    let rows = bodies.rows();
+    let told = report_end(bodies.right_count(), rows, bodies.reservoir_count());
     let room = both(runoff.len() == rows, told <= report.len());
     both(room, board.len() == BOARD_LENGTH)
 }
@@ -56,13 +50,11 @@ pub fn judge_lent(file: &[u8], runoff: &[u32], board: &[u64], report: &[u64]) ->
     if on_file.number != 0 {
         return on_file;
     }
-    let stations = section(file, STATIONS);
-    let reservoirs = section(file, RESERVOIRS);
-    let rights = section(file, RIGHTS);
-    if !all_fit(stations, reservoirs, rights, runoff, board, report) {
+    let bodies = Bodies::of(file);
+    if !all_fit(&bodies, runoff, board, report) {
         return tell(Verdict::Lists);
     }
-    if !is_possible(stations, reservoirs, rights, board) {
+    if !is_possible(&bodies, board) {
         return tell(Verdict::Board);
     }
     tell(Verdict::Accepted)

@@ -7,6 +7,8 @@ use Rattle.general.proofs.Tables.{tab-length, tab-at}
 use Rattle.rules.specs.Basin.{no_reservoir, no_right, rows}
 use Rattle.sections.specs.File.{section_of}
 use Rattle.records.specs.Records.{reservoir_count, reservoir_of, reservoirs_of, pattern_count, pattern_of, patterns_of, right_count, right_of, rights_of, rows_of, bodies, basin_of}
+use Rattle.records.specs.declared.bodies.Bodies.{Bodies}
+use Rattle.records.specs.Bodies.{basin_in, BodiesOf}
 use Rattle.records.proofs.Rows.{rows_are}
 
 module _ (s : List ℕ) where
@@ -34,20 +36,20 @@ module _ (s : List ℕ) where
   unfolding rights_of
   right_is i h = tab-at (right_of s) (right_count s) i no_right h
 
--- ---- the basin that four bodies make, and that of a file
+-- ---- the basin that four bodies describe, and that of a file
 
-module _ (st rs ps ri : List ℕ) where
-  pub bodies-rows : rows (bodies st rs ps ri) ≡ rows_of st
+module _ (w : Bodies) where
+  pub bodies-rows : rows (basin_in w) ≡ rows_of w.stations.now
   unfolding bodies
-  bodies-rows = rows_are st
+  bodies-rows = rows_are w.stations.now
 
-  pub bodies-reservoirs : length (bodies st rs ps ri).reservoirs ≡ reservoir_count rs
+  pub bodies-reservoirs : length (basin_in w).reservoirs ≡ reservoir_count w.reservoirs.now
   unfolding bodies
-  bodies-reservoirs = reservoirs-are rs
+  bodies-reservoirs = reservoirs-are w.reservoirs.now
 
-  pub bodies-rights : length (bodies st rs ps ri).rights ≡ right_count ri
+  pub bodies-rights : length (basin_in w).rights ≡ right_count w.rights.now
   unfolding bodies
-  bodies-rights = rights-are ri
+  bodies-rights = rights-are w.rights.now
 
 -- how many rows a file has, by its body of stations
 pub file-rows : (f : List ℕ) {st : List ℕ} → st ≡ section_of f 0 → rows_of st ≡ rows (basin_of f)
@@ -57,3 +59,8 @@ file-rows f e = ap rows_of e ∙ sym (rows_are (section_of f 0))
 pub basin-bodies : (f : List ℕ) → basin_of f ≡ bodies (section_of f 0) (section_of f 1) (section_of f 2) (section_of f 3)
 unfolding basin_of bodies
 basin-bodies f = refl
+
+-- what the bodies of a file describe is the file's basin
+pub basin-same : (f : List ℕ) (w : Bodies) → BodiesOf f w → basin_in w ≡ basin_of f
+unfolding basin_of
+basin-same f w o = λ z. bodies (o.stations z) (o.reservoirs z) (o.patterns z) (o.rights z)

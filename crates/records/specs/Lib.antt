@@ -1,3 +1,4 @@
 pub mod Records
+pub mod Bodies
 pub mod Network
 pub mod Table

@@ -3,75 +3,108 @@
 
 ghost use Rattle.std.specs.Prelude.{◌≡◌, ◌+◌, ◌≤◌, ◌<◌, length};
 ghost use Rattle.sections.specs.File.{width_of, offset_of, count_of, end_of, counts_ok, packed, layout_ok, section_of};
+ghost use Rattle.sections.specs.Sections.{place_of};
 
 use numbers::bytes::le32;
 use numbers::{both, in_range, size};
 
-// The sections, by their place in the table of contents.
-pub const STATIONS: usize = 0;
+// The sections, in the order of the table of contents.
+#[derive(Clone, Copy, Debug, PartialEq, Eq)]
+pub enum Section {
+    Stations,
+    Reservoirs,
+    Patterns,
+    Rights,
+}
 
-pub const RESERVOIRS: usize = 1;
-
-pub const PATTERNS: usize = 2;
-
-pub const RIGHTS: usize = 3;
-
-// The bytes of one record.
-fn width(which: usize) -> usize
-    requires { which < 4 }
-    ensures { (result ≡ width_of which) × (result < 77) }
-{
-    match which {
-        STATIONS => 8,
-        RESERVOIRS => 68,
-        PATTERNS => 12,
-        _ => 76,
+impl Section {
+    // Its place in the table.
+    fn place(self) -> usize
+        ensures { (result ≡ place_of self) × (result < 4) }
+    {
+        self as usize
     }
-}
 
-// Where the section's body starts, by the table.
-fn offset(file: &[u8], which: usize) -> usize
-    requires { (which < 4) × (32 ≤ length file.now) }
-    ensures { (result ≡ offset_of file.now which) × (result < 4294967296) }
-{
-    size(le32(file, 8 * which))
-}
+    // The bytes of one record.
+    fn width(self) -> usize
+        ensures { (result ≡ width_of (place_of self)) × (result < 77) }
+    {
+        match self {
+            Section::Stations => 8,
+            Section::Reservoirs => 68,
+            Section::Patterns => 12,
+            Section::Rights => 76,
+        }
+    }
 
-// The number of the section's records, by the table.
-fn count(file: &[u8], which: usize) -> u32
-    requires { (which < 4) × (32 ≤ length file.now) }
-    ensures { result ≡ count_of file.now which }
-{
-    le32(file, 8 * which + 4)
-}
+    // Where its body starts, by the table.
+    fn offset(self, file: &[u8]) -> usize
+        requires { 32 ≤ length file.now }
+        ensures { (result ≡ offset_of file.now (place_of self)) × (result < 4294967296) }
+    {
+        size(le32(file, 8 * self.place()))
+    }
 
-// Where the section's body ends, by the table.
-fn end(file: &[u8], which: usize) -> usize
-    requires { (which < 4) × (32 ≤ length file.now) }
-    ensures { result ≡ end_of file.now which }
-{
-    offset(file, which) + size(count(file, which)) * width(which)
+    // The number of its records, by the table.
+    fn count(self, file: &[u8]) -> u32
+        requires { 32 ≤ length file.now }
+        ensures { result ≡ count_of file.now (place_of self) }
+    {
+        le32(file, 8 * self.place() + 4)
+    }
+
+    // Where its body ends, by the table.
+    fn end(self, file: &[u8]) -> usize
+        requires { 32 ≤ length file.now }
+        ensures { result ≡ end_of file.now (place_of self) }
+    {
+        self.offset(file) + size(self.count(file)) * self.width()
+    }
+
+    // Its records where they stand in the caller's file, nothing copied; nothing where the table points past the end.
+    pub fn body<'a>(self, file: &'a [u8]) -> &'a [u8]
+        ensures { result.now ≡ section_of file.now (place_of self) }
+    {
+        if file.len() < 32 {
+            return &file[..0];
+        }
+        let start = self.offset(file);
+        let stop = self.end(file);
+        if file.len() < stop {
+            return &file[..0];
+        }
+        &file[start..stop]
+    }
 }
 
 fn counts_ok(file: &[u8]) -> bool
     requires { 32 ≤ length file.now }
     ensures { result ≡ counts_ok file.now }
 {
-    let stations = in_range(1, count(file, STATIONS), 64);
-    let reservoirs = both(stations, count(file, RESERVOIRS) <= 8);
-    let patterns = both(reservoirs, count(file, PATTERNS) <= 16);
-    both(patterns, count(file, RIGHTS) <= 256)
+    let stations = in_range(1, Section::Stations.count(file), 64);
+    let reservoirs = both(stations, Section::Reservoirs.count(file) <= 8);
+    let patterns = both(reservoirs, Section::Patterns.count(file) <= 16);
+    both(patterns, Section::Rights.count(file) <= 256)
 }
 
 fn is_packed(file: &[u8]) -> bool
     requires { 32 ≤ length file.now }
     ensures { result ≡ packed file.now }
 {
-    let stations = offset(file, STATIONS) == 32;
-    let reservoirs = both(stations, offset(file, RESERVOIRS) == end(file, STATIONS));
-    let patterns = both(reservoirs, offset(file, PATTERNS) == end(file, RESERVOIRS));
-    let rights = both(patterns, offset(file, RIGHTS) == end(file, PATTERNS));
-    both(rights, file.len() == end(file, RIGHTS))
+    let stations = Section::Stations.offset(file) == 32;
+    let reservoirs = both(
+        stations,
+        Section::Reservoirs.offset(file) == Section::Stations.end(file),
+    );
+    let patterns = both(
+        reservoirs,
+        Section::Patterns.offset(file) == Section::Reservoirs.end(file),
+    );
+    let rights = both(
+        patterns,
+        Section::Rights.offset(file) == Section::Patterns.end(file),
+    );
+    both(rights, file.len() == Section::Rights.end(file))
 }
 
 // Whether the table of contents is there and describes the file.
@@ -82,20 +115,4 @@ pub fn layout_ok(file: &[u8]) -> bool
         return false;
     }
     both(counts_ok(file), is_packed(file))
-}
-
-// The records of a section where they stand in the caller's file, nothing copied.
-pub fn section<'a>(file: &'a [u8], which: usize) -> &'a [u8]
-    requires { which < 4 }
-    ensures { result.now ≡ section_of file.now which }
-{
-    if file.len() < 32 {
-        return &file[..0];
-    }
-    let start = offset(file, which);
-    let stop = end(file, which);
-    if file.len() < stop {
-        return &file[..0];
-    }
-    &file[start..stop]
 }

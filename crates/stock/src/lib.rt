@@ -9,8 +9,8 @@ use answers::{Answer, judge_file, tell};
 use boards::possible::is_possible;
 use boards::sums::{due_sum, storage_sum};
 use places::board::BOARD_LENGTH;
+use records::bodies::Bodies;
 use rules::Verdict;
-use sections::{RESERVOIRS, RIGHTS, STATIONS, section};
 
 pub mod months;
 
@@ -35,9 +35,7 @@ fn judge_board(file: &[u8], board: &[u64]) -> Answer
     if board.len() != BOARD_LENGTH {
         return tell(Verdict::Lists);
     }
-    let stations = section(file, STATIONS);
-    let reservoirs = section(file, RESERVOIRS);
-    if !is_possible(stations, reservoirs, section(file, RIGHTS), board) {
+    if !is_possible(&Bodies::of(file), board) {
         return tell(Verdict::Board);
     }
     tell(Verdict::Accepted)
@@ -56,10 +54,11 @@ pub fn stock(file: &[u8], board: &[u64]) -> Sums
             due: 0,
         };
     }
+    let bodies = Bodies::of(file);
     Sums {
         number: 0,
         place: 0,
-        storage: storage_sum(section(file, RESERVOIRS).len() / 68, board),
-        due: due_sum(section(file, STATIONS).len() / 8, board),
+        storage: storage_sum(bodies.reservoir_count(), board),
+        due: due_sum(bodies.rows(), board),
     }
 }

@@ -4,7 +4,7 @@ ghost use Rattle.stock.specs.Months.{short_months_of, months_told};
 
 use crate::judge_board;
 use places::board::word_place;
-use sections::{RIGHTS, section};
+use records::bodies::Bodies;
 
 // An answer with a number of months, which is 0 where the board is refused.
 #[repr(C)]
@@ -29,7 +29,7 @@ pub fn short_months(file: &[u8], board: &[u64], right: usize) -> Months
             months: 0,
         };
     }
-    if section(file, RIGHTS).len() / 76 <= right {
+    if Bodies::of(file).right_count() <= right {
         return Months {
             number: 0,
             place: 0,

@@ -11,7 +11,6 @@ use lib.Seq.{length-take-le, take_at, drop_at}
 use Rattle.places.specs.Board.{board_length}
 use Rattle.rules.specs.Basin.{Basin}
 use Rattle.rules.specs.Tally.{report_length, over_limit}
-use Rattle.records.specs.Records.{bodies}
 use Rattle.boards.specs.Board.{possible}
 use Rattle.boards.specs.Report.{report_of}
 use Rattle.boards.proofs.Board.{board-length}
@@ -27,11 +26,11 @@ use Rattle.years.proofs.Sheets.{sheets-from, sheets-end, none_from}
 
 -- ---- one month
 
-module _ (st rs ps ri body : List ℕ) (k : ℕ) (runoff bd rp : List ℕ) (c : CanMonth st rs ps ri body k runoff bd rp) where
+module _ (b : Basin) (body : List ℕ) (k : ℕ) (runoff bd rp : List ℕ) (c : CanMonth b body k runoff bd rp) where
   pub can-read : CanRead body runoff × (k < 12)
   can-read = (record { few = omega (arith, c.year.numbers, c.year.accepted.few_rows); bytes = c.year.bytes }, c.month)
 
-  pub can-run : (runoff' : List ℕ) → runoff' ≡ sheet_at (length runoff) body k → CanRun st rs ps ri runoff' bd rp
+  pub can-run : (runoff' : List ℕ) → runoff' ≡ sheet_at (length runoff) body k → CanRun b runoff' bd rp
   can-run runoff' e = record {
     accepted = c.year.accepted;
     sheet = ap length e ∙ sheet-length (length runoff) (sheet_part (length runoff) body k) ∙ c.year.numbers;
@@ -95,10 +94,7 @@ pub record Going (b : Basin) (n : ℕ) (body : List ℕ) (first told : ℕ) (bd�
   pub board-left : boards_after b (drop k (sheets_in n body)) bd ≡ boards_after b (drop first (sheets_in n body)) bd₀
   pub reports_left : take at old ++ reports_of b (drop k (sheets_in n body)) bd (drop at old) ≡ reports_of b (drop first (sheets_in n body)) bd₀ old₀
 
-module _ (st rs ps ri body : List ℕ) (first told : ℕ) (runoff₀ bd₀ old₀ : List ℕ) (c : CanRest st rs ps ri body first told runoff₀ bd₀ old₀) where
-  abbrev b : Basin
-  b = bodies st rs ps ri
-
+module _ (b : Basin) (body : List ℕ) (first told : ℕ) (runoff₀ bd₀ old₀ : List ℕ) (c : CanRest b body first told runoff₀ bd₀ old₀) where
   abbrev n : ℕ
   n = length runoff₀
 
@@ -126,7 +122,7 @@ module _ (st rs ps ri body : List ℕ) (first told : ℕ) (runoff₀ bd₀ old�
     pub fits : at + told ≤ length old
     fits = omega (arith, g.place, g.long, part-within first k told (length old₀) g.from h c.room)
 
-    pub can-month : (w : ℕ) → w ≡ told → CanMonth st rs ps ri body k runoff bd (take w (drop at old))
+    pub can-month : (w : ℕ) → w ≡ told → CanMonth b body k runoff bd (take w (drop at old))
     can-month w ew = record {
       year = record { accepted = c.year.accepted; numbers = g.numbers ∙ c.year.numbers; bytes = omega (arith, g.numbers, c.year.bytes); size = g.size; can = g.can };
       month = h;

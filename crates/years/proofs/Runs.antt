@@ -3,7 +3,7 @@ use Rattle.std.specs.Prelude.{Option, None, Some}
 use mathlib.Core.Path.{◌≡◌, refl, sym, ap, ◌∙◌, subst}
 use mathlib.Core.Bool.{Bool, true}
 use mathlib.Core.List.{List}
-use Prim.Native.Nat.{ℕ, ◌-◌, ◌*◌, ◌/◌, ◌≤◌, ◌<◌}
+use Prim.Native.Nat.{ℕ, ◌-◌, ◌*◌, ◌≤◌, ◌<◌}
 use native.Mathlib.Nat.{mul-le-mul}
 use native.Mathlib.Omega.{arith}
 use lib.Dec.{leb, eqb}
@@ -18,11 +18,12 @@ use Rattle.rules.specs.Basin.{Basin, rows}
 use Rattle.rules.specs.Tally.{report_length}
 use Rattle.rules.specs.Years.{room_for_year, run_answer}
 use Rattle.rules.proofs.Answers.{or-none, or_some}
-use Rattle.sections.specs.File.{section_of}
 use Rattle.records.specs.Records.{rows_of, reservoir_count, right_count, bodies, basin_of}
-use Rattle.records.proofs.Decoded.{file-rows, basin-bodies, reservoirs-are, rights-are}
+use Rattle.records.specs.declared.bodies.Bodies.{Bodies}
+use Rattle.records.specs.Bodies.{basin_in, BodiesOf}
+use Rattle.records.proofs.Decoded.{file-rows, basin-same, reservoirs-are, rights-are}
 use Rattle.records.proofs.Rows.{rows_are}
-use Rattle.filecheck.proofs.Accepted.{accepted-facts}
+use Rattle.filecheck.proofs.Accepted.{accepted-in}
 use Rattle.boards.specs.Board.{possible}
 use Rattle.boards.specs.Bodies.{Counted}
 use Rattle.boards.proofs.Bodies.{counted}
@@ -55,10 +56,7 @@ same-made (Some a) k x y bd old h = refl
 
 -- ---- the months from the board's on
 
-module _ (st rs ps ri body : List ℕ) (told : ℕ) (runoff bd old : List ℕ) (c : CanThrough st rs ps ri body told runoff bd old) where
-  abbrev b : Basin
-  b = bodies st rs ps ri
-
+module _ (b : Basin) (body : List ℕ) (told : ℕ) (runoff bd old : List ℕ) (c : CanThrough b body told runoff bd old) where
   pub month-in : month_at bd < 12
   month-in = month-most b bd c.year.can
 
@@ -79,7 +77,7 @@ module _ (st rs ps ri body : List ℕ) (told : ℕ) (runoff bd old : List ℕ) (
       none_over : first_over from ≡ None
       none_over = clear_first from (ap (λ (x : Answer). x.number) (sym ea) ∙ n)
 
-      pub can-rest : (runoff' : List ℕ) → length runoff' ≡ length runoff → CanRest st rs ps ri body m told runoff' bd old
+      pub can-rest : (runoff' : List ℕ) → length runoff' ≡ length runoff → CanRest b body m told runoff' bd old
       can-rest runoff' er = record {
         year = record { accepted = c.year.accepted; numbers = er ∙ c.year.numbers; bytes = omega (arith, er, c.year.bytes); size = c.year.size; can = c.year.can };
         month = omega (arith, em, month-in);
@@ -97,20 +95,18 @@ module _ (st rs ps ri body : List ℕ) (told : ℕ) (runoff bd old : List ℕ) (
 
 -- ---- the lists, by the bodies
 
-pub run-fits-bodies : (st rs ps ri board reports : List ℕ)
-    → (eqb (length board) board_length and leb (12 * report_end (right_count ri) (rows_of st) (reservoir_count rs)) (length reports)) ≡ run_fits (bodies st rs ps ri) board reports
+pub run-fits-bodies : (w : Bodies) (board reports : List ℕ)
+    → (eqb (length board) board_length and leb (12 * report_end (right_count w.rights.now) (rows_of w.stations.now) (reservoir_count w.reservoirs.now)) (length reports)) ≡ run_fits (basin_in w) board reports
 unfolding bodies run_fits room_for_year
-run-fits-bodies st rs ps ri board reports = rw (reservoirs-are rs, rows_are st, rights-are ri)
+run-fits-bodies w board reports = rw (reservoirs-are w.reservoirs.now, rows_are w.stations.now, rights-are w.rights.now)
 
-told-bodies : (st rs ps ri : List ℕ) → report_end (right_count ri) (rows_of st) (reservoir_count rs) ≡ report_length (bodies st rs ps ri)
+told-bodies : (w : Bodies) → report_end (right_count w.rights.now) (rows_of w.stations.now) (reservoir_count w.reservoirs.now) ≡ report_length (basin_in w)
 unfolding bodies
-told-bodies st rs ps ri = rw (reservoirs-are rs, rows_are st, rights-are ri)
+told-bodies w = rw (reservoirs-are w.reservoirs.now, rows_are w.stations.now, rights-are w.rights.now)
 
--- at the sections of a file, whatever answers for every list of patterns answers for the file's
-pub run-fits-told : (f board reports : List ℕ) {st rs ri : List ℕ} {r : Bool} → st ≡ section_of f 0 → rs ≡ section_of f 1 → ri ≡ section_of f 3
-    → ((ps : List ℕ) → r ≡ run_fits (bodies st rs ps ri) board reports) → r ≡ run_fits (basin_of f) board reports
-run-fits-told f board reports e₀ e₁ e₃ h =
-    h (section_of f 2) ∙ (λ z. run_fits (bodies (e₀ z) (e₁ z) (section_of f 2) (e₃ z)) board reports) ∙ ap (λ (b : Basin). run_fits b board reports) (sym (basin-bodies f))
+-- by the bodies of a file, and by the file
+pub run-fits-told : (f : List ℕ) (w : Bodies) (board reports : List ℕ) {r : Bool} → BodiesOf f w → r ≡ run_fits (basin_in w) board reports → r ≡ run_fits (basin_of f) board reports
+run-fits-told f w board reports o h = h ∙ ap (λ (b : Basin). run_fits b board reports) (basin-same f w o)
 
 pub run-fits-parts : (b : Basin) (board reports : List ℕ) → run_fits b board reports ≡ true → (length board ≡ board_length) × (12 * report_length b ≤ length reports)
 unfolding run_fits room_for_year
@@ -166,35 +162,41 @@ module _ (f body bd old : List ℕ) where
         (λ e. let q = made-months f k.file-ok left bd old can-call e in (sym q.0, sym q.1))
         ∙ ap (λ (v : Option Answer). run_settled v (length left) (calls_made f left bd old) bd old) (sym body-over)
 
-    -- at the parts of the file as the code has them
-    module _ {st rs ps ri : List ℕ} (e₀ : st ≡ section_of f 0) (e₁ : rs ≡ section_of f 1) (e₂ : ps ≡ section_of f 2) (e₃ : ri ≡ section_of f 3) where
-      same : bodies st rs ps ri ≡ basin
-      same = (λ z. bodies (e₀ z) (e₁ z) (e₂ z) (e₃ z)) ∙ sym (basin-bodies f)
+    -- by the bodies of the file as the code has them
+    module _ (w : Bodies) (h : BodiesOf f w) where
+      same : basin_in w ≡ basin
+      same = basin-same f w h
 
-      rows_same : length st / 8 ≡ rows basin
-      rows_same = file-rows f e₀
+      accepted : Accepted (basin_in w)
+      accepted = accepted-in f w h k.file-ok
 
-      pub counted-here : Counted st rs ri
-      counted-here = rw (e₀, e₁, e₃) (counted f (accepted-facts f k.file-ok))
+      pub counted-here : Counted w
+      counted-here = counted w accepted
 
-      pub can-through : (told : ℕ) (runoff : List ℕ) → told ≡ report_end (right_count ri) (rows_of st) (reservoir_count rs) → length runoff ≡ length st / 8 → length body ≡ body_size (rows basin)
-          → CanThrough st rs ps ri body told runoff bd old
-      can-through told runoff et er eb = record {
+      rows_same : rows_of w.stations.now ≡ rows basin
+      rows_same = file-rows f h.stations
+
+      pub can-through : {told n l v : ℕ} (runoff : List ℕ) → n ≡ rows_of w.stations.now → l ≡ right_count w.rights.now → v ≡ reservoir_count w.reservoirs.now
+          → told ≡ report_end l n v → length runoff ≡ n → length body ≡ body_size (rows basin) → CanThrough (basin_in w) body told runoff bd old
+      can-through {told} {n} {l} {v} runoff en el ev et er eb = record {
         year = record {
-          accepted = subst Accepted (sym same) (accepted-facts f k.file-ok);
-          numbers = er ∙ rows_same ∙ sym (ap rows same);
-          bytes = omega (arith, eb, er, rows_same);
+          accepted = accepted;
+          numbers = er ∙ en ∙ rows_same ∙ sym (ap rows same);
+          bytes = omega (arith, eb, er, en, rows_same);
           size = parts.0;
           can = ap (λ (x : Basin). possible x bd) same ∙ k.board-ok;
         };
-        report = et ∙ told-bodies st rs ps ri;
-        room = omega (arith, parts.1, et, told-bodies st rs ps ri, ap report_length same);
+        report = report;
+        room = omega (arith, parts.1, report, ap report_length same);
       }
+        where
+          report : told ≡ report_length (basin_in w)
+          report = et ∙ (λ z. report_end (el z) (en z) (ev z)) ∙ told-bodies w
 
-      pub body-went : {x : ℕ} {o : Outcome} → WentThrough (bodies st rs ps ri) (drop (month_at bd) (sheets_in x body)) bd old o → x ≡ length st / 8 → BodyMeets f sheets bd old o
-      body-went {x} {o} w ex =
-          body-made o (subst (λ (z : ℕ). WentThrough basin (drop (month_at bd) (sheets_in z body)) bd old o) (ex ∙ rows_same)
-          (subst (λ (z : Basin). WentThrough z (drop (month_at bd) (sheets_in x body)) bd old o) same w))
+      pub body-went : {x n : ℕ} {o : Outcome} → n ≡ rows_of w.stations.now → WentThrough (basin_in w) (drop (month_at bd) (sheets_in x body)) bd old o → x ≡ n → BodyMeets f sheets bd old o
+      body-went {x} {n} {o} en r ex =
+          body-made o (subst (λ (z : ℕ). WentThrough basin (drop (month_at bd) (sheets_in z body)) bd old o) (ex ∙ en ∙ rows_same)
+          (subst (λ (z : Basin). WentThrough z (drop (month_at bd) (sheets_in x body)) bd old o) same r))
 
 -- ---- the year
 

@@ -1,4 +1,4 @@
--- The steps of a year run on the bodies of a file: what each asks for, and what it leaves.
+-- The steps of a year run on a basin: what each asks for, and what it leaves.
 use Rattle.std.specs.Prelude.{◌≡◌, true, List, [], ◌∷◌, ◌++◌, ℕ, ◌-◌, ◌*◌, ◌≤◌, ◌<◌, length, take, drop, Option, None}
 use Rattle.places.specs.Board.{board_length, month_at}
 use Rattle.rules.specs.Accepted.{Accepted}
@@ -6,7 +6,7 @@ use Rattle.rules.specs.declared.Verdict.TheVariants.{Accepted as AcceptedFile}
 use Rattle.rules.specs.Answers.{Answer, or_else}
 use Rattle.rules.specs.Basin.{Basin, rows}
 use Rattle.rules.specs.Tally.{report_length, over_limit, over_answer}
-use Rattle.records.specs.Records.{bodies, basin_of}
+use Rattle.records.specs.Records.{basin_of}
 use Rattle.filecheck.specs.Check.{check_of}
 use Rattle.boards.specs.Board.{possible}
 use Rattle.boards.specs.Report.{report_of}
@@ -47,36 +47,36 @@ pub record CanJudge (f bd : List ℕ) : Type 0 where
   pub size : length bd ≡ board_length
   pub can : possible (basin_of f) bd ≡ true
 
--- the bodies of an accepted file, a body of the book and a possible board
-pub record CanYear (st rs ps ri body runoff bd : List ℕ) : Type 0 where
-  pub accepted : Accepted (bodies st rs ps ri)
-  pub numbers : length runoff ≡ rows (bodies st rs ps ri)
+-- an accepted basin, a body of the book and a possible board
+pub record CanYear (b : Basin) (body runoff bd : List ℕ) : Type 0 where
+  pub accepted : Accepted b
+  pub numbers : length runoff ≡ rows b
   pub bytes : length body ≡ 12 * sheet_size (length runoff)
   pub size : length bd ≡ board_length
-  pub can : possible (bodies st rs ps ri) bd ≡ true
+  pub can : possible b bd ≡ true
 
 -- month k: its sheet is not over its limit
-pub record CanMonth (st rs ps ri body : List ℕ) (k : ℕ) (runoff bd rp : List ℕ) : Type 0 where
-  pub year : CanYear st rs ps ri body runoff bd
+pub record CanMonth (b : Basin) (body : List ℕ) (k : ℕ) (runoff bd rp : List ℕ) : Type 0 where
+  pub year : CanYear b body runoff bd
   pub month : k < 12
   pub none_over : over_limit (sheet_at (length runoff) body k) ≡ None
-  pub room : report_length (bodies st rs ps ri) ≤ length rp
+  pub room : report_length b ≤ length rp
 
 -- month k and those after it: none of their sheets is over its limit, and there is room for their reports
-pub record CanRest (st rs ps ri body : List ℕ) (k told : ℕ) (runoff bd old : List ℕ) : Type 0 where
-  pub year : CanYear st rs ps ri body runoff bd
+pub record CanRest (b : Basin) (body : List ℕ) (k told : ℕ) (runoff bd old : List ℕ) : Type 0 where
+  pub year : CanYear b body runoff bd
   pub month : k ≤ 12
   pub none_over : first_over (drop k (sheets_in (length runoff) body)) ≡ None
-  pub report : told ≡ report_length (bodies st rs ps ri)
+  pub report : told ≡ report_length b
   pub room : (12 - k) * told ≤ length old
 
 pub record RestRan (b : Basin) (rs : List (List ℕ)) (board old board' old' : List ℕ) : Type 0 where
   pub board-left : board' ≡ boards_after b rs board
   pub reports_left : old' ≡ reports_of b rs board old
 
-pub record CanThrough (st rs ps ri body : List ℕ) (told : ℕ) (runoff bd old : List ℕ) : Type 0 where
-  pub year : CanYear st rs ps ri body runoff bd
-  pub report : told ≡ report_length (bodies st rs ps ri)
+pub record CanThrough (b : Basin) (body : List ℕ) (told : ℕ) (runoff bd old : List ℕ) : Type 0 where
+  pub year : CanYear b body runoff bd
+  pub report : told ≡ report_length b
   pub room : 12 * told ≤ length old
 
 -- the run where only the runoff can be turned down; rs: the sheets from the board's month on

@@ -4,7 +4,8 @@ ghost use Rattle.places.specs.Board.{month_at};
 ghost use Rattle.rules.specs.Basin.{rows};
 ghost use Rattle.rules.specs.Years.{room_for_year};
 ghost use Rattle.rules.specs.declared.Verdict.TheVariants.{Accepted};
-ghost use Rattle.records.specs.Records.{bodies, basin_of};
+ghost use Rattle.records.specs.Records.{basin_of};
+ghost use Rattle.records.specs.Bodies.{basin_in};
 ghost use Rattle.filecheck.specs.Check.{check_of};
 ghost use Rattle.sheets.specs.Sheets.{sheet_at};
 ghost use Rattle.boards.specs.Bodies.{Counted};
@@ -24,37 +25,29 @@ use month::run::run;
 use numbers::both;
 use places::board::{BOARD_LENGTH, MONTH};
 use places::report::report_end;
+use records::bodies::Bodies;
 use rules::Verdict;
-use sections::{PATTERNS, RESERVOIRS, RIGHTS, STATIONS, section};
 
 // Month k, whose sheet is within its limit. Answers how many rights are short.
 fn run_month(
-    stations: &[u8],
-    reservoirs: &[u8],
-    patterns: &[u8],
-    rights: &[u8],
+    bodies: &Bodies<'_>,
     body: &[u8],
     k: usize,
     runoff: &mut [u32],
     board: &mut [u64],
     report: &mut [u64],
 ) -> usize
-    requires { CanMonth stations.now reservoirs.now patterns.now rights.now body.now k runoff.old board.old report.old }
-    ensures { Ran (bodies stations.now reservoirs.now patterns.now rights.now) (sheet_at (length runoff.old) body.now k) board.old report.old board.new report.new result }
+    requires { CanMonth (basin_in bodies.now) body.now k runoff.old board.old report.old }
+    ensures { Ran (basin_in bodies.now) (sheet_at (length runoff.old) body.now k) board.old report.old board.new report.new result }
 {
     read_sheet(body, k, runoff);
-    run(
-        stations, reservoirs, patterns, rights, runoff, board, report,
-    )
+    run(bodies, runoff, board, report)
 }
 
 // The months from `first` on, each report on its own part of the list. `told` is a report's length. A loop and no call of itself, so that a
 // year needs little more stack than a month.
 fn run_rest(
-    stations: &[u8],
-    reservoirs: &[u8],
-    patterns: &[u8],
-    rights: &[u8],
+    bodies: &Bodies<'_>,
     body: &[u8],
     first: usize,
     told: usize,
@@ -62,23 +55,13 @@ fn run_rest(
     board: &mut [u64],
     reports: &mut [u64],
 )
-    requires { CanRest stations.now reservoirs.now patterns.now rights.now body.now first told runoff.old board.old reports.old }
-    ensures { RestRan (bodies stations.now reservoirs.now patterns.now rights.now) (drop first (sheets_in (length runoff.old) body.now)) board.old reports.old board.new reports.new }
+    requires { CanRest (basin_in bodies.now) body.now first told runoff.old board.old reports.old }
+    ensures { RestRan (basin_in bodies.now) (drop first (sheets_in (length runoff.old) body.now)) board.old reports.old board.new reports.new }
 {
     let mut at = 0;
     for k in first..MONTHS {
         let end = at + told;
-        run_month(
-            stations,
-            reservoirs,
-            patterns,
-            rights,
-            body,
-            k,
-            runoff,
-            board,
-            &mut reports[at..end],
-        );
+        run_month(bodies, body, k, runoff, board, &mut reports[at..end]);
         at = end;
     }
 }
@@ -86,27 +69,22 @@ fn run_rest(
 // The months from the board's on, where only the runoff can be turned down. No month is run before it is known that none will be refused: the
 // sheets are all there to look at, and a month that is run leaves a possible board.
 fn run_through(
-    stations: &[u8],
-    reservoirs: &[u8],
-    patterns: &[u8],
-    rights: &[u8],
+    bodies: &Bodies<'_>,
     body: &[u8],
     told: usize,
     runoff: &mut [u32],
     board: &mut [u64],
     reports: &mut [u64],
 ) -> Answer
-    requires { CanThrough stations.now reservoirs.now patterns.now rights.now body.now told runoff.old board.old reports.old }
-    ensures { WentThrough (bodies stations.now reservoirs.now patterns.now rights.now) (drop (month_at board.old) (sheets_in (length runoff.old) body.now)) board.old reports.old (outcome_of result board.new reports.new) }
+    requires { CanThrough (basin_in bodies.now) body.now told runoff.old board.old reports.old }
+    ensures { WentThrough (basin_in bodies.now) (drop (month_at board.old) (sheets_in (length runoff.old) body.now)) board.old reports.old (outcome_of result board.new reports.new) }
 {
     let m = in_year(board[MONTH]);
     let over = judge_sheets(body, m, runoff);
     if over.number != 0 {
         return over;
     }
-    run_rest(
-        stations, reservoirs, patterns, rights, body, m, told, runoff, board, reports,
-    );
+    run_rest(bodies, body, m, told, runoff, board, reports);
     Answer {
         number: 0,
         place: (MONTHS - m) as u64,
@@ -114,17 +92,15 @@ fn run_through(
 }
 
 // Whether board and list have the lengths that the basin asks for: a board's places, and room for twelve reports.
-fn run_fits(
-    stations: &[u8],
-    reservoirs: &[u8],
-    rights: &[u8],
-    board: &[u64],
-    reports: &[u64],
-) -> bool
-    requires { Counted stations.now reservoirs.now rights.now }
-    ensures { (ps : List ℕ) → result ≡ run_fits (bodies stations.now reservoirs.now ps rights.now) board.now reports.now }
+fn run_fits(bodies: &Bodies<'_>, board: &[u64], reports: &[u64]) -> bool
+    requires { Counted bodies.now }
+    ensures { result ≡ run_fits (basin_in bodies.now) board.now reports.now }
 {
-    let told = report_end(rights.len() / 76, stations.len() / 8, reservoirs.len() / 68);
+    let told = report_end(
+        bodies.right_count(),
+        bodies.rows(),
+        bodies.reservoir_count(),
+    );
     both(board.len() == BOARD_LENGTH, MONTHS * told <= reports.len())
 }
 
@@ -133,13 +109,11 @@ fn judge_lists(file: &[u8], board: &[u64], reports: &[u64]) -> Answer
     requires { check_of file.now ≡ Accepted }
     ensures { answer_of result ≡ settled (lent_refusal file.now (run_fits (basin_of file.now) board.now reports.now) board.now) }
 {
-    let stations = section(file, STATIONS);
-    let reservoirs = section(file, RESERVOIRS);
-    let rights = section(file, RIGHTS);
-    if !run_fits(stations, reservoirs, rights, board, reports) {
+    let bodies = Bodies::of(file);
+    if !run_fits(&bodies, board, reports) {
         return tell(Verdict::Lists);
     }
-    if !is_possible(stations, reservoirs, rights, board) {
+    if !is_possible(&bodies, board) {
         return tell(Verdict::Board);
     }
     tell(Verdict::Accepted)
@@ -154,24 +128,11 @@ fn run_body(file: &[u8], body: &[u8], board: &mut [u64], reports: &mut [u64]) ->
     if on_lists.number != 0 {
         return on_lists;
     }
-    let stations = section(file, STATIONS);
-    let reservoirs = section(file, RESERVOIRS);
-    let patterns = section(file, PATTERNS);
-    let rights = section(file, RIGHTS);
-    let n = stations.len() / 8;
-    let told = report_end(rights.len() / 76, n, reservoirs.len() / 68);
+    let bodies = Bodies::of(file);
+    let n = bodies.rows();
+    let told = report_end(bodies.right_count(), n, bodies.reservoir_count());
     let mut runoff = [0u32; 64];
-    run_through(
-        stations,
-        reservoirs,
-        patterns,
-        rights,
-        body,
-        told,
-        &mut runoff[..n],
-        board,
-        reports,
-    )
+    run_through(&bodies, body, told, &mut runoff[..n], board, reports)
 }
 
 // What a run of the year from this board would be refused with, whatever the list that it is lent, if only that is long enough. Nothing is run.

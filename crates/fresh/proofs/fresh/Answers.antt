@@ -1,10 +1,11 @@
 -- `fresh::fresh` meets its contract: a refused file, a board that does not fit, and the board written. Assumes nothing.
+use mathlib.Core.Path.{sym}
 use Prim.Native.Nat.{◌≤◌}
 use native.Mathlib.Omega.{arith}
 use borrow.Author.Rules.{rules}
 use Rattle.sections.specs.File.{section_of}
 use Rattle.records.specs.Records.{reservoir_count}
-use Rattle.filecheck.proofs.Accepted.{accepted-facts}
+use Rattle.filecheck.proofs.Accepted.{accepted-in}
 use Rattle.boards.proofs.Bodies.{counted}
 use Rattle.answers.proofs.Answers.{accepted-of}
 use Rattle.fresh.proofs.Answers.{fresh-refused, fresh-unfit, fresh-made}
@@ -22,13 +23,12 @@ returns-then-board-ne-BOARD_LENGTH c =
 pub store_starts-requires : goal.store_starts-requires
 store_starts-requires c =
     let f = c.args.file.now in
-    let n : reservoir_count (section_of f 1) ≤ 8 = (counted f (accepted-facts f (accepted-of f _ c.judge_file-on_file.ensures (omega arith)))).reservoirs_in in
-    (rw c.section.ensures n, search rules)
+    ((counted c.of.result (accepted-in f _ c.of.ensures (accepted-of f _ c.judge_file-on_file.ensures (omega arith)))).reservoirs_in, search rules)
 
 pub returns : goal.returns
 returns c =
     let f = c.args.file.now in
     let acc = accepted-of f _ c.judge_file-on_file.ensures (omega arith) in
-    let n : reservoir_count (section_of f 1) ≤ 8 = (counted f (accepted-facts f acc)).reservoirs_in in
+    let n : reservoir_count (section_of f 1) ≤ 8 = rw (sym c.of.ensures.reservoirs) (counted c.of.result (accepted-in f _ c.of.ensures acc)).reservoirs_in in
     fresh-made f c.args.board.now acc _ c.tell-2.ensures _ (omega arith)
-    (fresh-is f _ _ c.clear.ensures n (rw c.section.ensures at c.store_starts.ensures))
+    (fresh-is f _ _ c.clear.ensures n (rw c.of.ensures.reservoirs at c.store_starts.ensures))

@@ -13,10 +13,10 @@ pub run_sheet-requires : goal.run_sheet-requires
 run_sheet-requires c =
     let s = c.args in
     let k = lent-clear s.file.now (all_fit (basin_of s.file.now) s.runoff.now s.board.now s.report.now) s.board.now _ c.judge_lent-on_lent.ensures (omega arith) in
-    can-go-at s.file.now s.runoff.now s.board.now s.report.now k c.section.ensures c.section-2.ensures c.section-3.ensures c.section-4.ensures
+    can-go-at s.file.now s.runoff.now s.board.now s.report.now k _ c.of.ensures
 
 pub returns : goal.returns
 returns c =
     let s = c.args in
     let k = lent-clear s.file.now (all_fit (basin_of s.file.now) s.runoff.now s.board.now s.report.now) s.board.now _ c.judge_lent-on_lent.ensures (omega arith) in
-    month-went s.file.now s.runoff.now s.board.now s.report.now k c.section.ensures c.section-2.ensures c.section-3.ensures c.section-4.ensures _ c.run_sheet.ensures
+    month-went s.file.now s.runoff.now s.board.now s.report.now k _ c.of.ensures _ c.run_sheet.ensures

@@ -4,7 +4,7 @@ use native.Mathlib.Omega.{arith}
 use Rattle.boards.proofs.Bodies.{sized, possible-told}
 use Rattle.stock.proofs.Answers.{stock-file, stock-unfit, stock-impossible, stock-possible}
 use Rattle.answers.proofs.Answers.{accepted-of}
-use Rattle.filecheck.proofs.Accepted.{accepted-facts}
+use Rattle.filecheck.proofs.Accepted.{accepted-in}
 use Rattle.stock.proofs.judge_board.Goals as goal
 
 pub returns-then-on_file-ne0 : goal.returns-then-on_file-ne0
@@ -19,19 +19,18 @@ pub is_possible-requires : goal.is_possible-requires
 is_possible-requires c =
     let f = c.args.file.now in
     let b = c.args.board.now in
-    let h = sized f b (accepted-facts f (accepted-of f _ c.judge_file-on_file.ensures (omega arith))) (omega arith) in
-    rw (c.section-stations.ensures, c.section-reservoirs.ensures, c.section.ensures) h
+    sized c.of.result b (accepted-in f _ c.of.ensures (accepted-of f _ c.judge_file-on_file.ensures (omega arith))) (omega arith)
 
 pub returns-then-not-is_possible : goal.returns-then-not-is_possible
 returns-then-not-is_possible c =
     let f = c.args.file.now in
     let b = c.args.board.now in
-    let p = possible-told f b c.section-stations.ensures c.section-reservoirs.ensures c.section.ensures c.is_possible.ensures in
+    let p = possible-told f _ b c.of.ensures c.is_possible.ensures in
     c.tell-then-not-is_possible.ensures ∙ stock-impossible f b (accepted-of f _ c.judge_file-on_file.ensures (omega arith)) (omega arith) (sym p ∙ c.if-not-is_possible.true)
 
 pub returns : goal.returns
 returns c =
     let f = c.args.file.now in
     let b = c.args.board.now in
-    let p = possible-told f b c.section-stations.ensures c.section-reservoirs.ensures c.section.ensures c.is_possible.ensures in
+    let p = possible-told f _ b c.of.ensures c.is_possible.ensures in
     c.tell-2.ensures ∙ stock-possible f b (accepted-of f _ c.judge_file-on_file.ensures (omega arith)) (omega arith) (sym p ∙ c.if-not-is_possible.false)

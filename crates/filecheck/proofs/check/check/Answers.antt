@@ -26,9 +26,9 @@ check_bodies-requires c =
     let e : layout_ok f ≡ true = sym c.layout_ok.ensures ∙ c.if-not-layout_ok.false in
     let n : 0 < rows_of (section_of f 0) = omega (arith, (laid f e).stations, rows-counted f e) in
     let m : rows_of (section_of f 0) ≤ 64 = omega (arith, (laid f e).stations, rows-counted f e) in
-    (rw c.section.ensures n, rw c.section.ensures m)
+    (rw c.of.ensures.stations n, rw c.of.ensures.stations m)
 
 pub returns : goal.returns
 returns c =
     let f = c.args.file.now in
-    ruled f (sym c.layout_ok.ensures ∙ c.if-not-layout_ok.false) c.section.ensures c.section-2.ensures c.section-3.ensures c.section-4.ensures c.check_bodies.ensures
+    ruled f (sym c.layout_ok.ensures ∙ c.if-not-layout_ok.false) c.of.ensures.stations c.of.ensures.reservoirs c.of.ensures.patterns c.of.ensures.rights c.check_bodies.ensures

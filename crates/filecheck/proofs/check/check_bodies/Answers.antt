@@ -14,7 +14,7 @@ returns-in_default-on_patterns c = at-patterns _ _ _ _ (sym c.check_stations-on_
 
 pub check_rights-requires : goal.check_rights-requires
 check_rights-requires c =
-    let a = c.args in
+    let a = c.args.bodies.now in
     (c.check_stations-on_stations.ensures.table_for c.in-Accepted.is, rows-good a.stations.now a.reservoirs.now a.patterns.now a.rights.now (sym c.check_reservoirs-on_reservoirs.ensures ∙ c.in-Accepted-on_reservoirs.is))
 
 pub returns : goal.returns

@@ -9,4 +9,4 @@ evaporation_sum-evaporation-requires c = rw c.rows_end.ensures (search rules)
 pub returns : goal.returns
 returns c =
     let s = c.args in
-    λ ps. month-put s.stations.now s.reservoirs.now ps s.rights.now s.report.now s.board.now s.out.now c.put_rights-end.new.out _ s.month s.at _ _ _ _ _ c.put_rights-end.ensures (rw c.rows_end.ensures at c.evaporation_sum-evaporation.ensures) c.storage_sum-storage.ensures c.due_sum-pending.ensures (rw c.flow_place.ensures at c.put_end.ensures)
+    month-put s.bodies.now s.report.now s.board.now s.out.now c.put_rights-end.new.out _ s.month s.at _ _ _ _ _ c.right_count-lines.ensures c.rows-rows.ensures c.reservoir_count-n.ensures c.put_rights-end.ensures (rw c.rows_end.ensures at c.evaporation_sum-evaporation.ensures) c.storage_sum-storage.ensures c.due_sum-pending.ensures (rw c.flow_place.ensures at c.put_end.ensures)

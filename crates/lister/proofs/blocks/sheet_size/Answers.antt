@@ -4,4 +4,4 @@ use Rattle.records.proofs.Decoded.{file-rows}
 use Rattle.lister.proofs.blocks.sheet_size.Goals as goal
 
 pub returns : goal.returns
-returns c = omega (arith, file-rows c.args.file.now c.section.ensures)
+returns c = omega (arith, c.rows.ensures, file-rows c.args.file.now c.of.ensures.stations)

@@ -14,20 +14,20 @@ returns-then-left-eq0 c =
 pub returns-then-left-n : goal.returns-then-left-n
 returns-then-left-n c =
     let s = c.args in
-    part-short s.file.now s.part.now s.from s.board.now s.report.now s.out.now c.requires _ c.section.ensures (λ z. omega (arith, z, c.if-left-eq0.false)) c.if-left-n.true _ _ _ c.tell.ensures c.refuse.ensures
+    part-short s.file.now s.part.now s.from s.board.now s.report.now s.out.now c.requires _ (c.rows-n.ensures ∙ file-rows s.file.now c.of.ensures.stations) (λ z. omega (arith, z, c.if-left-eq0.false)) c.if-left-n.true _ _ _ c.tell.ensures c.refuse.ensures
 
 pub slice_bounds-runoff-end : goal.slice_bounds-runoff-end
 slice_bounds-runoff-end c =
     let s = c.args in
-    omega (arith, few_rows s.file.now s.part.now s.from s.board.now s.report.now s.out.now c.requires, file-rows s.file.now c.section.ensures)
+    omega (arith, few_rows s.file.now s.part.now s.from s.board.now s.report.now s.out.now c.requires, c.rows-n.ensures ∙ file-rows s.file.now c.of.ensures.stations)
 
 pub slice_bounds-list_sheet-end : goal.slice_bounds-list_sheet-end
 slice_bounds-list_sheet-end c =
     let s = c.args in
-    sym (length-take-le _ _ (omega (arith, few_rows s.file.now s.part.now s.from s.board.now s.report.now s.out.now c.requires, file-rows s.file.now c.section.ensures)))
+    sym (length-take-le _ _ (omega (arith, few_rows s.file.now s.part.now s.from s.board.now s.report.now s.out.now c.requires, c.rows-n.ensures ∙ file-rows s.file.now c.of.ensures.stations)))
 
 pub list_sheet-requires : goal.list_sheet-requires
 list_sheet-requires c =
     let s = c.args in
-    let e = file-rows s.file.now c.section.ensures in
+    let e = c.rows-n.ensures ∙ file-rows s.file.now c.of.ensures.stations in
     (c.requires, omega (arith, c.if-left-n.false, e), (length-take-le _ _ (omega (arith, few_rows s.file.now s.part.now s.from s.board.now s.report.now s.out.now c.requires, e))) ∙ e)

@@ -3,4 +3,4 @@ use Rattle.month.proofs.Settling.{lists-bodies}
 use Rattle.month.proofs.refusals.all_fit.Goals as goal
 
 pub returns : goal.returns
-returns c = let a = c.args in λ ps. cc (lists-bodies a.stations.now a.reservoirs.now ps a.rights.now a.runoff.now a.board.now a.report.now)
+returns c = let a = c.args in cc (lists-bodies a.bodies.now a.runoff.now a.board.now a.report.now)

@@ -3,7 +3,7 @@ use mathlib.Core.Path.{sym, ◌∙◌}
 use native.Mathlib.Omega.{arith}
 use Rattle.boards.proofs.Bodies.{counted, sized, possible-told}
 use Rattle.answers.proofs.Answers.{accepted-of, lent-file, lent-unfit, lent-impossible, lent-good}
-use Rattle.filecheck.proofs.Accepted.{accepted-facts}
+use Rattle.filecheck.proofs.Accepted.{accepted-in}
 use Rattle.month.specs.Month.{all_fit}
 use Rattle.month.proofs.Settling.{lists-told, fits-parts}
 use Rattle.records.specs.Records.{basin_of}
@@ -15,14 +15,13 @@ returns-then-on_file-ne0 c = let s = c.args in lent-file s.file.now (all_fit (ba
 pub all_fit-requires : goal.all_fit-requires
 all_fit-requires c =
     let f = c.args.file.now in
-    let h = counted f (accepted-facts f (accepted-of f _ c.judge_file-on_file.ensures (omega arith))) in
-    rw (c.section-stations.ensures, c.section-reservoirs.ensures, c.section-rights.ensures) h
+    counted _ (accepted-in f _ c.of-bodies.ensures (accepted-of f _ c.judge_file-on_file.ensures (omega arith)))
 
 pub returns-then-not-all_fit : goal.returns-then-not-all_fit
 returns-then-not-all_fit c =
     let s = c.args in
     let f = s.file.now in
-    let p = lists-told f s.runoff.now s.board.now s.report.now c.section-stations.ensures c.section-reservoirs.ensures c.section-rights.ensures c.all_fit.ensures in
+    let p = lists-told f _ s.runoff.now s.board.now s.report.now c.of-bodies.ensures c.all_fit.ensures in
     c.tell.ensures ∙ lent-unfit f (all_fit (basin_of s.file.now) s.runoff.now s.board.now s.report.now) s.board.now (accepted-of f _ c.judge_file-on_file.ensures (omega arith)) (sym p ∙ c.if-not-all_fit.true)
 
 pub is_possible-requires : goal.is_possible-requires
@@ -30,18 +29,17 @@ is_possible-requires c =
     let s = c.args in
     let f = s.file.now in
     let b = s.board.now in
-    let p = lists-told f s.runoff.now b s.report.now c.section-stations.ensures c.section-reservoirs.ensures c.section-rights.ensures c.all_fit.ensures in
+    let p = lists-told f _ s.runoff.now b s.report.now c.of-bodies.ensures c.all_fit.ensures in
     let fits = fits-parts (basin_of f) s.runoff.now b s.report.now (sym p ∙ c.if-not-all_fit.false) in
-    let h = sized f b (accepted-facts f (accepted-of f _ c.judge_file-on_file.ensures (omega arith))) fits.2 in
-    rw (c.section-stations.ensures, c.section-reservoirs.ensures, c.section-rights.ensures) h
+    sized _ b (accepted-in f _ c.of-bodies.ensures (accepted-of f _ c.judge_file-on_file.ensures (omega arith))) fits.2
 
 pub returns-then-not-is_possible : goal.returns-then-not-is_possible
 returns-then-not-is_possible c =
     let s = c.args in
     let f = s.file.now in
     let b = s.board.now in
-    let l = lists-told f s.runoff.now b s.report.now c.section-stations.ensures c.section-reservoirs.ensures c.section-rights.ensures c.all_fit.ensures in
-    let p = possible-told f b c.section-stations.ensures c.section-reservoirs.ensures c.section-rights.ensures c.is_possible.ensures in
+    let l = lists-told f _ s.runoff.now b s.report.now c.of-bodies.ensures c.all_fit.ensures in
+    let p = possible-told f _ b c.of-bodies.ensures c.is_possible.ensures in
     c.tell-then-not-is_possible.ensures ∙ lent-impossible f (all_fit (basin_of s.file.now) s.runoff.now s.board.now s.report.now) b (accepted-of f _ c.judge_file-on_file.ensures (omega arith)) (sym l ∙ c.if-not-all_fit.false) (sym p ∙ c.if-not-is_possible.true)
 
 pub returns : goal.returns
@@ -49,6 +47,6 @@ returns c =
     let s = c.args in
     let f = s.file.now in
     let b = s.board.now in
-    let l = lists-told f s.runoff.now b s.report.now c.section-stations.ensures c.section-reservoirs.ensures c.section-rights.ensures c.all_fit.ensures in
-    let p = possible-told f b c.section-stations.ensures c.section-reservoirs.ensures c.section-rights.ensures c.is_possible.ensures in
+    let l = lists-told f _ s.runoff.now b s.report.now c.of-bodies.ensures c.all_fit.ensures in
+    let p = possible-told f _ b c.of-bodies.ensures c.is_possible.ensures in
     c.tell-2.ensures ∙ lent-good f (all_fit (basin_of s.file.now) s.runoff.now s.board.now s.report.now) b (accepted-of f _ c.judge_file-on_file.ensures (omega arith)) (sym l ∙ c.if-not-all_fit.false) (sym p ∙ c.if-not-is_possible.false)

@@ -5,7 +5,7 @@ use native.Mathlib.Omega.{arith}
 use lib.ListN.{get_or}
 use mathlib.Core.List.{List}
 use Rattle.general.proofs.Lists.{get_d-zeros, get_d-falses}
-use Rattle.records.specs.Records.{bodies}
+use Rattle.records.specs.Bodies.{basin_in}
 use Rattle.month.proofs.Opened.{opened-month}
 use Rattle.boards.proofs.Bounds.{month-most}
 use Rattle.month.proofs.Running.{run-rows, run-patterns, setting, can-gather, can-open, can-serve, can-end, ran}
@@ -14,18 +14,18 @@ use Rattle.month.proofs.run.run.Goals as goal
 pub rows_below-below-requires : goal.rows_below-below-requires
 rows_below-below-requires c =
     let s = c.args in
-    run-rows s.stations.now s.reservoirs.now s.patterns.now s.rights.now s.runoff.now s.board.now s.report.now c.requires
+    run-rows s.bodies.now s.runoff.now s.board.now s.report.now c.requires
 
 pub decode_patterns-table-requires : goal.decode_patterns-table-requires
 decode_patterns-table-requires c =
     let s = c.args in
-    run-patterns s.stations.now s.reservoirs.now s.patterns.now s.rights.now s.runoff.now s.board.now s.report.now c.requires
+    run-patterns s.bodies.now s.runoff.now s.board.now s.report.now c.requires
 
 pub begin-requires : goal.begin-requires
 begin-requires c =
     let s = c.args in (
-      can-gather s.stations.now s.reservoirs.now s.patterns.now s.rights.now s.runoff.now s.board.now s.report.now c.requires _ c.rows_below-below.ensures _ c.decode_patterns-table.ensures _ _ (omega arith) (omega arith) (get_d-zeros 64) (get_d-zeros 64),
-      can-open s.stations.now s.reservoirs.now s.patterns.now s.rights.now s.runoff.now s.board.now s.report.now c.requires,
+      can-gather s.bodies.now s.runoff.now s.board.now s.report.now c.requires _ c.rows_below-below.ensures _ c.decode_patterns-table.ensures _ _ (omega arith) (omega arith) (get_d-zeros 64) (get_d-zeros 64),
+      can-open s.bodies.now s.runoff.now s.board.now s.report.now c.requires,
     )
 
 pub bounds-board-0 : goal.bounds-board-0
@@ -35,24 +35,24 @@ pub in_year-m-requires : goal.in_year-m-requires
 in_year-m-requires c =
     let s = c.args in
     let p = c.requires in
-    let b = bodies s.stations.now s.reservoirs.now s.patterns.now s.rights.now in
+    let b = basin_in s.bodies.now in
     omega (arith, ap (λ (x : List ℕ). get_or x 0 0) c.begin.ensures.1, opened-month s.board.now, month-most b s.board.now p.can)
 
 pub serve_all-deep-requires : goal.serve_all-deep-requires
 serve_all-deep-requires c =
     let s = c.args in
-    can-serve s.stations.now s.reservoirs.now s.patterns.now s.rights.now s.runoff.now s.board.now s.report.now c.requires _ c.rows_below-below.ensures _ c.decode_patterns-table.ensures _ _ c.begin.ensures.0 _ _ c.begin.ensures.1 (get_d-falses 64) (omega arith) _ c.in_year-m.ensures
+    can-serve s.bodies.now s.runoff.now s.board.now s.report.now c.requires _ c.rows_below-below.ensures _ c.decode_patterns-table.ensures _ _ c.begin.ensures.0 _ _ c.begin.ensures.1 (get_d-falses 64) (omega arith) _ c.in_year-m.ensures
 
 pub end-requires : goal.end-requires
 end-requires c =
     let s = c.args in
-    let w = setting s.stations.now s.reservoirs.now s.patterns.now s.rights.now s.runoff.now s.board.now s.report.now c.requires _ c.rows_below-below.ensures _ c.decode_patterns-table.ensures in
-    let b = bodies s.stations.now s.reservoirs.now s.patterns.now s.rights.now in
-    can-end s.stations.now s.reservoirs.now s.patterns.now s.rights.now s.runoff.now s.board.now s.report.now c.requires _ c.rows_below-below.ensures _ c.decode_patterns-table.ensures _ _ c.begin.ensures.0 _ _ c.begin.ensures.1 (get_d-falses 64) (omega arith) _ c.in_year-m.ensures _ _ _ _ _ _ (c.serve_all-deep.ensures b w)
+    let w = setting s.bodies.now s.runoff.now s.board.now s.report.now c.requires _ c.rows_below-below.ensures _ c.decode_patterns-table.ensures in
+    let b = basin_in s.bodies.now in
+    can-end s.bodies.now s.runoff.now s.board.now s.report.now c.requires _ c.rows_below-below.ensures _ c.decode_patterns-table.ensures _ _ c.begin.ensures.0 _ _ c.begin.ensures.1 (get_d-falses 64) (omega arith) _ c.in_year-m.ensures _ _ _ _ _ _ (c.serve_all-deep.ensures b w) c.right_count.ensures c.rows.ensures
 
 pub returns : goal.returns
 returns c =
     let s = c.args in
-    let w = setting s.stations.now s.reservoirs.now s.patterns.now s.rights.now s.runoff.now s.board.now s.report.now c.requires _ c.rows_below-below.ensures _ c.decode_patterns-table.ensures in
-    let b = bodies s.stations.now s.reservoirs.now s.patterns.now s.rights.now in
-    ran s.stations.now s.reservoirs.now s.patterns.now s.rights.now s.runoff.now s.board.now s.report.now c.requires _ c.rows_below-below.ensures _ c.decode_patterns-table.ensures _ _ c.begin.ensures.0 _ _ c.begin.ensures.1 (get_d-falses 64) (omega arith) _ c.in_year-m.ensures _ _ _ _ _ _ (c.serve_all-deep.ensures b w) _ _ _ c.end.ensures
+    let w = setting s.bodies.now s.runoff.now s.board.now s.report.now c.requires _ c.rows_below-below.ensures _ c.decode_patterns-table.ensures in
+    let b = basin_in s.bodies.now in
+    ran s.bodies.now s.runoff.now s.board.now s.report.now c.requires _ c.rows_below-below.ensures _ c.decode_patterns-table.ensures _ _ c.begin.ensures.0 _ _ c.begin.ensures.1 (get_d-falses 64) (omega arith) _ c.in_year-m.ensures _ _ _ _ _ _ (c.serve_all-deep.ensures b w) c.right_count.ensures c.rows.ensures _ _ _ c.end.ensures

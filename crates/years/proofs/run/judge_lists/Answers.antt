@@ -1,7 +1,7 @@
 -- `years::run::judge_lists` meets its contract. Assumes nothing.
 use mathlib.Core.Path.{sym, ◌∙◌}
 use Rattle.records.specs.Records.{basin_of}
-use Rattle.filecheck.proofs.Accepted.{accepted-facts}
+use Rattle.filecheck.proofs.Accepted.{accepted-in}
 use Rattle.boards.proofs.Bodies.{counted, sized, possible-told}
 use Rattle.answers.proofs.Answers.{lent-unfit, lent-impossible, lent-good}
 use Rattle.years.specs.Years.{run_fits}
@@ -11,35 +11,35 @@ use Rattle.years.proofs.run.judge_lists.Goals as goal
 pub run_fits-requires : goal.run_fits-requires
 run_fits-requires c =
     let f = c.args.file.now in
-    rw (c.section-stations.ensures, c.section-reservoirs.ensures, c.section-rights.ensures) (counted f (accepted-facts f c.requires))
+    counted _ (accepted-in f _ c.of-bodies.ensures c.requires)
 
 pub returns-then-not-run_fits : goal.returns-then-not-run_fits
 returns-then-not-run_fits c =
     let s = c.args in
     let f = s.file.now in
-    let l = run-fits-told f s.board.now s.reports.now c.section-stations.ensures c.section-reservoirs.ensures c.section-rights.ensures c.run_fits.ensures in
+    let l = run-fits-told f _ s.board.now s.reports.now c.of-bodies.ensures c.run_fits.ensures in
     c.tell.ensures ∙ lent-unfit f (run_fits (basin_of f) s.board.now s.reports.now) s.board.now c.requires (sym l ∙ c.if-not-run_fits.true)
 
 pub is_possible-requires : goal.is_possible-requires
 is_possible-requires c =
     let s = c.args in
     let f = s.file.now in
-    let l = run-fits-told f s.board.now s.reports.now c.section-stations.ensures c.section-reservoirs.ensures c.section-rights.ensures c.run_fits.ensures in
+    let l = run-fits-told f _ s.board.now s.reports.now c.of-bodies.ensures c.run_fits.ensures in
     let fits = run-fits-parts (basin_of f) s.board.now s.reports.now (sym l ∙ c.if-not-run_fits.false) in
-    rw (c.section-stations.ensures, c.section-reservoirs.ensures, c.section-rights.ensures) (sized f s.board.now (accepted-facts f c.requires) fits.0)
+    sized _ s.board.now (accepted-in f _ c.of-bodies.ensures c.requires) fits.0
 
 pub returns-then-not-is_possible : goal.returns-then-not-is_possible
 returns-then-not-is_possible c =
     let s = c.args in
     let f = s.file.now in
-    let l = run-fits-told f s.board.now s.reports.now c.section-stations.ensures c.section-reservoirs.ensures c.section-rights.ensures c.run_fits.ensures in
-    let p = possible-told f s.board.now c.section-stations.ensures c.section-reservoirs.ensures c.section-rights.ensures c.is_possible.ensures in
+    let l = run-fits-told f _ s.board.now s.reports.now c.of-bodies.ensures c.run_fits.ensures in
+    let p = possible-told f _ s.board.now c.of-bodies.ensures c.is_possible.ensures in
     c.tell-then-not-is_possible.ensures ∙ lent-impossible f (run_fits (basin_of f) s.board.now s.reports.now) s.board.now c.requires (sym l ∙ c.if-not-run_fits.false) (sym p ∙ c.if-not-is_possible.true)
 
 pub returns : goal.returns
 returns c =
     let s = c.args in
     let f = s.file.now in
-    let l = run-fits-told f s.board.now s.reports.now c.section-stations.ensures c.section-reservoirs.ensures c.section-rights.ensures c.run_fits.ensures in
-    let p = possible-told f s.board.now c.section-stations.ensures c.section-reservoirs.ensures c.section-rights.ensures c.is_possible.ensures in
+    let l = run-fits-told f _ s.board.now s.reports.now c.of-bodies.ensures c.run_fits.ensures in
+    let p = possible-told f _ s.board.now c.of-bodies.ensures c.is_possible.ensures in
     c.tell-2.ensures ∙ lent-good f (run_fits (basin_of f) s.board.now s.reports.now) s.board.now c.requires (sym l ∙ c.if-not-run_fits.false) (sym p ∙ c.if-not-is_possible.false)

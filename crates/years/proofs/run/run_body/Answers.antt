@@ -18,33 +18,33 @@ report_end-told-requires c =
     let s = c.args in
     let f = s.file.now in
     let k = (lent-clear f (run_fits (basin_of f) s.board.now s.reports.now) s.board.now _ c.judge_lists-on_lists.ensures (omega arith)) in
-    let n = counted-here f s.body.now s.board.now s.reports.now k c.section-stations.ensures c.section-reservoirs.ensures c.section-patterns.ensures c.section-rights.ensures in
-    (n.rights_in, n.rows_in, n.reservoirs_in)
+    let n = counted-here f s.body.now s.board.now s.reports.now k _ c.of-bodies.ensures in
+    (omega (arith, n.rights_in, c.right_count.ensures), omega (arith, n.rows_in, c.rows-n.ensures), omega (arith, n.reservoirs_in, c.reservoir_count.ensures))
 
 pub slice_bounds-runoff-end : goal.slice_bounds-runoff-end
 slice_bounds-runoff-end c =
     let s = c.args in
     let f = s.file.now in
     let k = (lent-clear f (run_fits (basin_of f) s.board.now s.reports.now) s.board.now _ c.judge_lists-on_lists.ensures (omega arith)) in
-    omega (arith, (counted-here f s.body.now s.board.now s.reports.now k c.section-stations.ensures c.section-reservoirs.ensures c.section-patterns.ensures c.section-rights.ensures).rows_in)
+    omega (arith, (counted-here f s.body.now s.board.now s.reports.now k _ c.of-bodies.ensures).rows_in, c.rows-n.ensures)
 
 pub slice_bounds-run_through-end : goal.slice_bounds-run_through-end
 slice_bounds-run_through-end c =
     let s = c.args in
     let f = s.file.now in
     let k = (lent-clear f (run_fits (basin_of f) s.board.now s.reports.now) s.board.now _ c.judge_lists-on_lists.ensures (omega arith)) in
-    sym (length-take-le _ _ (omega (arith, (counted-here f s.body.now s.board.now s.reports.now k c.section-stations.ensures c.section-reservoirs.ensures c.section-patterns.ensures c.section-rights.ensures).rows_in)))
+    sym (length-take-le _ _ (omega (arith, (counted-here f s.body.now s.board.now s.reports.now k _ c.of-bodies.ensures).rows_in, c.rows-n.ensures)))
 
 pub run_through-requires : goal.run_through-requires
 run_through-requires c =
     let s = c.args in
     let f = s.file.now in
     let k = (lent-clear f (run_fits (basin_of f) s.board.now s.reports.now) s.board.now _ c.judge_lists-on_lists.ensures (omega arith)) in
-    can-through f s.body.now s.board.now s.reports.now k c.section-stations.ensures c.section-reservoirs.ensures c.section-patterns.ensures c.section-rights.ensures _ _ c.report_end-told.ensures (length-take-le _ _ (omega (arith, (counted-here f s.body.now s.board.now s.reports.now k c.section-stations.ensures c.section-reservoirs.ensures c.section-patterns.ensures c.section-rights.ensures).rows_in))) c.requires.1
+    can-through f s.body.now s.board.now s.reports.now k _ c.of-bodies.ensures _ c.rows-n.ensures c.right_count.ensures c.reservoir_count.ensures c.report_end-told.ensures (length-take-le _ _ (omega (arith, (counted-here f s.body.now s.board.now s.reports.now k _ c.of-bodies.ensures).rows_in, c.rows-n.ensures))) c.requires.1
 
 pub returns : goal.returns
 returns c =
     let s = c.args in
     let f = s.file.now in
     let k = (lent-clear f (run_fits (basin_of f) s.board.now s.reports.now) s.board.now _ c.judge_lists-on_lists.ensures (omega arith)) in
-    body-went f s.body.now s.board.now s.reports.now k c.section-stations.ensures c.section-reservoirs.ensures c.section-patterns.ensures c.section-rights.ensures c.run_through.ensures (length-take-le _ _ (omega (arith, (counted-here f s.body.now s.board.now s.reports.now k c.section-stations.ensures c.section-reservoirs.ensures c.section-patterns.ensures c.section-rights.ensures).rows_in)))
+    body-went f s.body.now s.board.now s.reports.now k _ c.of-bodies.ensures c.rows-n.ensures c.run_through.ensures (length-take-le _ _ (omega (arith, (counted-here f s.body.now s.board.now s.reports.now k _ c.of-bodies.ensures).rows_in, c.rows-n.ensures)))

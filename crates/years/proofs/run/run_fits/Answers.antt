@@ -3,4 +3,4 @@ use Rattle.years.proofs.Runs.{run-fits-bodies}
 use Rattle.years.proofs.run.run_fits.Goals as goal
 
 pub returns : goal.returns
-returns c = let a = c.args in λ ps. cc (run-fits-bodies a.stations.now a.reservoirs.now ps a.rights.now a.board.now a.reports.now)
+returns c = let a = c.args in cc (run-fits-bodies a.bodies.now a.board.now a.reports.now)
