@@ -1,18 +1,18 @@
 #!/usr/bin/env bash
 # The arrays that the library and riverrun keep are those of docs/PERFORMANCE.md: every one that is written out, copied
-# from behind a reference or handed over by value, and every buffer. A list kept beside the flow would be one more.
+# from behind a reference or handed over by value. A list kept beside the flow would be one more.
 set -euo pipefail
 cd "$(dirname "$0")/.."
 
 # The code of a file without what keeps no array: comments, contracts, texts and attributes; results, since what is
-# answered was made before; the types of lists that are lent; and indices.
+# answered was made before; the types of lists that are lent; indices; and lists of nothing.
 code() {
     sed -E 's|//.*||; /^ *(ghost|requires|ensures|invariant|decreases) /d; s/b"[^"]*"//g; s/#!?\[[^]]*\]//g' "$1" |
         sed -E "s/-> \[.*//; s/&('[a-z]+ )?(mut )?\[+(bool|[iu][0-9]+|usize)(; [0-9]+\])*\]?//g" |
-        sed -E 's/([A-Za-z0-9_])\[[^]]*\]/\1/g'
+        sed -E 's/([A-Za-z0-9_])\[[^]]*\]/\1/g; s/\[\]//g'
 }
-# A buffer; or a written array or a copy, with the name that it is given.
-array='[a-z_]+ = ([a-z_]+::)*[a-z_]*buffer|([a-z_]+(:| =) )?(\[[^]]*\]?(; [0-9]+\])?|\*[a-z_]+)'
+# A written array or a copy, with the name that it is given.
+array='([a-z_]+(:| =) )?(\[[^]]*\]?(; [0-9]+\])?|\*[a-z_]+)'
 # A line `crate/src/file.rt text` for each array of a folder of crates.
 arrays() {
     local file

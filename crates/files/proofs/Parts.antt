@@ -1,20 +1,17 @@
 -- A list's front and what follows it. Assumes nothing.
-use Rattle.std.proofs.Common.{◌≡◌, ℕ, ◌+◌, ◌-◌, List, ◌++◌, length, take, drop, slice_range, arith, sym, ap, ◌∙◌}
-use Rattle.std.proofs.lemmas.List.{take_rest}
-use lib.Seq.{take-add}
+use Rattle.std.proofs.Common.{◌≡◌, ℕ, ◌+◌, ◌-◌, ◌≤◌, List, ◌++◌, append_assoc, length, length-take-le, take, drop, sym, ap, ◌∙◌}
+use Rattle.std.proofs.lemmas.List.{take_rest, take-append-drop, take-append-le}
+use borrow.Rule.Slice.PartMut.{put_mid, post_of}
+use lib.Seq.{take-append-add}
 
--- what was read goes on after a front that stays
-pub front_and_range : (a n : ℕ) (old new : List ℕ) → take a new ≡ take a old → take a old ++ slice_range new a (a + n) ≡ take (a + n) new
-front_and_range a n old new front =
-    let same : a + ((a + n) - a) ≡ a + n = omega arith in
-    ap (λ l. l ++ slice_range new a (a + n)) (sym front) ∙ sym (take-add a ((a + n) - a) new) ∙ ap (λ k. take k new) same
+-- what was read goes on after the front that stays
+pub front_and_read : (a k n : ℕ) (old read : List ℕ) → a ≤ length old → n ≤ length read → take a old ++ take n read ≡ take (a + n) (put_mid a k old read)
+front_and_read a k n old read within fits =
+    let after = post_of a k old in
+    sym (ap (λ m. take (m + n) (put_mid a k old read)) (sym (length-take-le a old within)) ∙ take-append-add (take a old) (read ++ after) n
+    ∙ ap (λ l. take a old ++ l) (take-append-le n read after fits))
 
--- where nothing was read the front is all
-pub front_alone : (a n : ℕ) (old new : List ℕ) → take a new ≡ take a old → n ≡ 0 → take a old ++ slice_range new a (a + n) ≡ take a new
-front_alone a n old new front none =
-    let same : a + n ≡ a = omega arith in
-    front_and_range a n old new front ∙ ap (λ k. take k new) same
-
--- what was written goes on after the front that was
-pub front_and_part : (a n : ℕ) (xs : List ℕ) → take a xs ++ take n (take (length xs - a) (drop a xs)) ≡ take (a + n) xs
-front_and_part a n xs = ap (λ l. take a xs ++ take n l) (take_rest xs a) ∙ sym (take-add a n xs)
+-- what was written goes on after what was before, and the rest is still to come
+pub written_and_rest : (all done rest : List ℕ) (n : ℕ) → all ≡ done ++ rest → all ≡ (done ++ take n rest) ++ take (length rest - n) (drop n rest)
+written_and_rest all done rest n e =
+    e ∙ ap (λ l. done ++ l) (sym (take-append-drop n rest)) ∙ sym (append_assoc done (take n rest) (drop n rest)) ∙ ap (λ l. (done ++ take n rest) ++ l) (sym (take_rest rest n))

@@ -1,26 +1,23 @@
 // The words of the command line.
-ghost use Rattle.files.specs.Counts.{IsPrefixLen};
+ghost use Rattle.std.specs.Prelude.{◌≤◌, length};
 
 use std::env::FillError;
 use std::rt::Env;
 
+// Room for a word: the longest path that the system opens is a byte shorter.
+pub const WORD_ROOM: usize = 4096;
+
 // How many words the program was started with, its own name among them.
 pub fn word_count<R: Env>(rt: &R) -> usize {
-    let mut some = [0u8; 1];
-    for i in 0..usize::MAX {
-        if let Err(FillError::NotPresent) = rt.arg(i, &mut some) {
-            return i;
-        }
-    }
-    usize::MAX
+    (0..usize::MAX)
+        .find(|&i| matches!(rt.arg(i, &mut []), Err(FillError::NotPresent)))
+        .unwrap_or(usize::MAX)
 }
 
-// Word i, at the start of buf, and how many bytes it has: none where it is missing or longer than buf.
-pub fn word<R: Env>(rt: &R, i: usize, buf: &mut [u8]) -> usize
-    ensures { IsPrefixLen result buf.new }
+// Word i, which is put at the start of buf: an empty one where it is missing or longer than buf.
+pub fn word<'a, R: Env>(rt: &R, i: usize, buf: &'a mut [u8]) -> &'a [u8]
+    ensures { length result.now ≤ length buf.old }
 {
-    match rt.arg(i, buf) {
-        Ok(n) => n,
-        Err(_) => 0,
-    }
+    let n = rt.arg(i, buf).unwrap_or(0);
+    &buf[..n]
 }

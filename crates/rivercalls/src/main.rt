@@ -3,30 +3,20 @@
 // short months of October's rights over a year and a month; last the same October by other patterns, with what goes deep.
 #![tactic(auto)]
 
-ghost use Rattle.files.specs.Counts.{IsPrefixLen};
-
-use files::buffers::{buffer, large_buffer};
-use files::{fill, open_read};
+use files::{FILE_ROOM, read_file};
 use fresh::fresh;
 use month::month;
 use places::board::{BOARD_LENGTH, MONTH};
 use printing::saying::{say, say_stock};
 use std::io;
-use std::rt::Files;
 
 mod booked;
 mod counting;
 mod saying;
 mod seeping;
 
-fn read_file<R: Files>(rt: &R, name: &[u8], buf: &mut [u8]) -> usize
-    ensures { IsPrefixLen result buf.new }
-{
-    match open_read(rt, name) {
-        Ok(mut file) => fill(&mut file, buf).count,
-        Err(_) => 0,
-    }
-}
+// Room for the book of two years.
+const BOOK_ROOM: usize = 4096;
 
 // Refusal 6: a list that is too short or too long.
 fn wrong_lengths<R: Print>(
@@ -100,12 +90,14 @@ fn call<R: Print>(rt: &R, file: &[u8], book: &[u8]) -> io::Result<()> {
     booked::call(rt, file, book, &mut board)
 }
 
+// A file that can't be read counts as empty.
 fn main(rt: HostRuntime) -> io::Result<()> {
-    let mut file = large_buffer();
-    let n = read_file(&rt, b"october.basin.bin", &mut file);
-    let mut book = buffer();
-    let k = read_file(&rt, b"october.book.bin", &mut book);
-    call(&rt, &file[..n], &book[..k])?;
-    counting::call(&rt, &file[..n], &book[..k])?;
-    seeping::call(&rt, &mut file[..n])
+    let mut space = [0; FILE_ROOM];
+    let file = read_file(&rt, b"october.basin.bin", &mut space).unwrap_or(&[]);
+    let mut book_space = [0; BOOK_ROOM];
+    let book = read_file(&rt, b"october.book.bin", &mut book_space).unwrap_or(&[]);
+    call(&rt, file, book)?;
+    counting::call(&rt, file, book)?;
+    let n = file.len();
+    seeping::call(&rt, &mut space[..n])
 }

@@ -3,8 +3,7 @@
 #![tactic(auto)]
 
 use entries::copies::STORE_LENGTH;
-use files::buffers::{buffer, large_buffer};
-use files::read_whole;
+use files::{FILE_ROOM, read_whole};
 use places::board::BOARD_LENGTH;
 use std::io;
 
@@ -22,6 +21,9 @@ const WINTER: usize = 5 * SHEET;
 
 const YEAR: usize = 12 * SHEET;
 
+// Room for the sheets of a year.
+const SHEETS_ROOM: usize = 4096;
+
 fn plan<R: Print + Eprint>(rt: &R, file: &[u8], year: &[u8], dry: &[u8]) -> io::Result<()> {
     if year.len() < YEAR {
         return Ok(());
@@ -35,11 +37,11 @@ fn plan<R: Print + Eprint>(rt: &R, file: &[u8], year: &[u8], dry: &[u8]) -> io::
 }
 
 fn main(rt: HostRuntime) -> io::Result<()> {
-    let mut file = large_buffer();
-    let n = read_whole(&rt, b"provo.basin.bin", &mut file);
-    let mut year = buffer();
-    let k = read_whole(&rt, b"provo.months.bin", &mut year);
-    let mut dry = buffer();
-    let j = read_whole(&rt, b"dry.months.bin", &mut dry);
-    plan(&rt, &file[..n], &year[..k], &dry[..j])
+    let mut file_space = [0; FILE_ROOM];
+    let file = read_whole(&rt, b"provo.basin.bin", &mut file_space);
+    let mut year_space = [0; SHEETS_ROOM];
+    let year = read_whole(&rt, b"provo.months.bin", &mut year_space);
+    let mut dry_space = [0; SHEETS_ROOM];
+    let dry = read_whole(&rt, b"dry.months.bin", &mut dry_space);
+    plan(&rt, file, year, dry)
 }

@@ -4,7 +4,7 @@ ghost use Rattle.places.specs.Board.{board_length};
 
 use crate::listed::{list_months, print_months};
 use crate::saying::{say_compared, say_recall, say_save};
-use files::buffers::large_buffer;
+use files::FILE_ROOM;
 use fresh::fresh;
 use lister::beginning::open_listing;
 use places::board::BOARD_LENGTH;
@@ -55,7 +55,7 @@ fn compare<R: Print>(
     spring: &[u8],
     printed: &[u8],
 ) -> io::Result<()> {
-    let mut text = large_buffer();
+    let mut text = [0; FILE_ROOM];
     let n = list_untried(file, winter, spring, &mut text);
     say_compared(rt, printed.len(), printed == &text[..n])
 }
@@ -71,7 +71,7 @@ pub fn try_dry<R: Print + Eprint>(
 ) -> io::Result<()>
     requires { length board.old ≡ board_length }
 {
-    let mut text = large_buffer();
+    let mut text = [0; FILE_ROOM];
     begin(rt, file, board, &mut text);
     print_months(rt, file, winter, 0, board, &mut text);
     dry_spring(rt, file, dry, store, board, &mut text)?;

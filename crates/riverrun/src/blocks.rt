@@ -7,9 +7,8 @@ ghost use Rattle.places.specs.Board.{board_length};
 ghost use Rattle.boards.specs.Board.{possible};
 ghost use Rattle.riverrun.specs.Months.{CanListFile};
 
-use files::buffers::large_buffer;
-use files::fill;
 use files::reasons::fail;
+use files::{FILE_ROOM, fill};
 use lister::Progress;
 use lister::blocks::sheet_size;
 use places::report::MOST_REPORT;
@@ -19,30 +18,29 @@ use std::io::Read;
 
 // Reads a block. A read that fails leaves a part that is no whole sheet, so that it is never taken for the end of the file: where it stopped
 // between two sheets, the byte that could not be read stands for that part.
-fn read_block<R: Eprint, F: Read>(
+fn read_block<'a, R: Eprint, F: Read>(
     rt: &R,
     months: &mut F,
     path: &[u8],
     size: usize,
-    block: &mut [u8],
-) -> usize
+    block: &'a mut [u8],
+) -> &'a [u8]
     requires { 0 < size }
-    ensures { result ≤ length block.old }
+    ensures { length result.now ≤ length block.old }
 {
-    let filled = fill(months, block);
-    let n = filled.count;
-    let Some(e) = filled.failure else {
-        return n;
-    };
-    fail(rt, path, e);
-    if n % size != 0 {
-        return n;
+    match fill(months, block) {
+        Ok(n) => &block[..n],
+        Err(e) => {
+            fail(rt, path, e.error);
+            let n = e.count;
+            // No read is made of a full block, so none fails there.
+            if n % size != 0 || n == block.len() {
+                &block[..n]
+            } else {
+                &block[..n + 1]
+            }
+        }
     }
-    // No read is made of a full block, so none fails there.
-    if n == block.len() {
-        return n;
-    }
-    n + 1
 }
 
 // Block after block, until the listing ends. The blocks are counted, since a proved loop has to end, from more than any disk holds.
@@ -66,17 +64,7 @@ fn list_blocks<R: Print + Eprint, F: Read>(
     let mut blocks = 140737488355328u64;
     while blocks > 0 {
         let got = read_block(rt, months, path, size, block);
-        let sent = list_read(
-            rt,
-            file,
-            size,
-            &block[..got],
-            got < full,
-            p,
-            board,
-            report,
-            out,
-        );
+        let sent = list_read(rt, file, size, got, got.len() < full, p, board, report, out);
         p = sent.progress;
         if !sent.written {
             return sent;
@@ -105,8 +93,8 @@ pub fn list_all<R: Print + Eprint, F: Read>(
     requires { (check_of file.now ≡ Accepted) × (length board.old ≡ board_length) × (possible (basin_of file.now) board.old ≡ true) × (length out.old ≡ 65536) × (from.at ≤ 65536) × (from.months ≡ 0) × (from.more ≡ true) }
 {
     let size = sheet_size(file);
-    let full = 65536 - 65536 % size;
-    let mut space = large_buffer();
+    let full = FILE_ROOM - FILE_ROOM % size;
+    let mut space = [0; FILE_ROOM];
     let mut report = [0u64; MOST_REPORT];
     let sent = list_blocks(
         rt,

@@ -4,10 +4,9 @@
 
 ghost use Rattle.std.specs.Prelude.{◌<◌};
 
-use files::buffers::{buffer, large_buffer};
 use files::reasons::fail;
-use files::words::{word, word_count};
-use files::{open_read, read_whole};
+use files::words::{WORD_ROOM, word, word_count};
+use files::{FILE_ROOM, open_read, read_whole};
 use lister::beginning::open_listing;
 use places::board::BOARD_LENGTH;
 use printing::output::write;
@@ -18,7 +17,7 @@ mod blocks;
 // The listing of a basin. Answers whether it could be written. Months that can't be opened are listed as none.
 fn list_months<R: Files + Print + Eprint>(rt: &R, file: &[u8], months: &[u8]) -> bool {
     let mut board = [0u64; BOARD_LENGTH];
-    let mut out = large_buffer();
+    let mut out = [0; FILE_ROOM];
     let opened = open_listing(file, &mut board, &mut out);
     let at = opened.at;
     if !opened.more {
@@ -43,20 +42,17 @@ fn list_months<R: Files + Print + Eprint>(rt: &R, file: &[u8], months: &[u8]) ->
 
 // The buffer is longer than any basin file that keeps the layout, so a file that is cut here is refused as the whole would be.
 fn list<R: Files + Print + Eprint>(rt: &R, basin: &[u8], months: &[u8]) -> bool {
-    let mut buf = large_buffer();
-    let n = read_whole(rt, basin, &mut buf);
-    list_months(rt, &buf[..n], months)
+    let mut space = [0; FILE_ROOM];
+    list_months(rt, read_whole(rt, basin, &mut space), months)
 }
 
 // The names that stand from argument i on; a name that is not there names no file.
 fn list_named<R: Files + Env + Print + Eprint>(rt: &R, i: usize) -> bool
     requires { i < 18446744073709551615 }
 {
-    let mut basin = buffer();
-    let b = word(rt, i, &mut basin);
-    let mut months = buffer();
-    let m = word(rt, i + 1, &mut months);
-    list(rt, &basin[..b], &months[..m])
+    let mut basin = [0; WORD_ROOM];
+    let mut months = [0; WORD_ROOM];
+    list(rt, word(rt, i, &mut basin), word(rt, i + 1, &mut months))
 }
 
 fn main(rt: HostRuntime) {

@@ -5,9 +5,8 @@
 ghost use Rattle.std.specs.Prelude.{◌≤◌};
 ghost use Rattle.riveryear.specs.Going.{most_asked, CanListBook};
 
-use files::buffers::{buffer, large_buffer};
-use files::read_whole;
-use files::words::{word, word_count};
+use files::words::{WORD_ROOM, word, word_count};
+use files::{FILE_ROOM, read_whole};
 use lister::Progress;
 use lister::beginning::open_listing;
 use places::board::BOARD_LENGTH;
@@ -48,12 +47,11 @@ fn list_book<R: Files + Env + Print + Eprint>(
 ) -> bool
     requires { CanListBook file.now years from board.old out.old }
 {
-    let mut name = buffer();
-    let k = word(rt, 2, &mut name);
-    let mut space = large_buffer();
-    let n = read_whole(rt, &name[..k], &mut space);
+    let mut name = [0; WORD_ROOM];
+    let mut space = [0; FILE_ROOM];
+    let book = read_whole(rt, word(rt, 2, &mut name), &mut space);
     let mut report = [0u64; MOST_REPORT];
-    let sent = picked::list_years(rt, file, &space[..n], years, from, board, &mut report, out);
+    let sent = picked::list_years(rt, file, book, years, from, board, &mut report, out);
     if !sent.written {
         return false;
     }
@@ -64,7 +62,7 @@ fn list_book<R: Files + Env + Print + Eprint>(
 // The listing of a basin. Answers whether it could be written. The book is opened only where a year is asked for and the basin is accepted.
 fn list<R: Files + Env + Print + Eprint>(rt: &R, file: &[u8]) -> bool {
     let mut board = [0u64; BOARD_LENGTH];
-    let mut out = large_buffer();
+    let mut out = [0; FILE_ROOM];
     let opened = open_listing(file, &mut board, &mut out);
     let at = opened.at;
     if !opened.more {
@@ -79,9 +77,7 @@ fn list<R: Files + Env + Print + Eprint>(rt: &R, file: &[u8]) -> bool {
 
 // The buffer is longer than any basin file that keeps the layout, so a file that is cut here is refused as the whole would be.
 fn main(rt: HostRuntime) {
-    let mut name = buffer();
-    let k = word(&rt, 1, &mut name);
-    let mut buf = large_buffer();
-    let n = read_whole(&rt, &name[..k], &mut buf);
-    list(&rt, &buf[..n]);
+    let mut name = [0; WORD_ROOM];
+    let mut space = [0; FILE_ROOM];
+    list(&rt, read_whole(&rt, word(&rt, 1, &mut name), &mut space));
 }

@@ -2,8 +2,7 @@
 ghost use Rattle.std.specs.Prelude.{◌≡◌};
 ghost use Rattle.riveryear.specs.Words.{year_named};
 
-use files::buffers::buffer;
-use files::words::word;
+use files::words::{WORD_ROOM, word};
 use numbers::wide8;
 use std::rt::Env;
 
@@ -33,7 +32,6 @@ fn year_named(word: &[u8]) -> u32
 
 // The year that argument i names.
 pub fn year_asked<R: Env>(rt: &R, i: usize) -> u32 {
-    let mut buf = buffer();
-    let n = word(rt, i, &mut buf);
-    year_named(&buf[..n])
+    let mut name = [0; WORD_ROOM];
+    year_named(word(rt, i, &mut name))
 }
