@@ -8,10 +8,10 @@ use years::run::run_year;
 
 // Refusals 1, 9 and 10.
 fn look_up<R: Print>(rt: &R, file: &[u8], book: &[u8]) -> io::Result<()> {
-    say(rt, b"year, no file:", find_year(&file[..0], book, 1889))?;
-    say(rt, b"year, no book:", find_year(file, &book[..0], 1889))?;
-    say(rt, b"year 1888:", find_year(file, book, 1888))?;
-    say(rt, b"year 1889:", find_year(file, book, 1889))
+    say(rt, "year, no file:", find_year(&file[..0], book, 1889))?;
+    say(rt, "year, no book:", find_year(file, &book[..0], 1889))?;
+    say(rt, "year 1888:", find_year(file, book, 1888))?;
+    say(rt, "year 1889:", find_year(file, book, 1889))
 }
 
 // Twelve reports have 336 numbers. Refusals 9 and 10 come before 6, and 6 before 8.
@@ -19,17 +19,17 @@ fn short_lists<R: Print>(rt: &R, file: &[u8], book: &[u8], board: &mut [u64]) ->
     let mut few = [0u64; 335];
     say(
         rt,
-        b"run of 1888, list of 335:",
+        "run of 1888, list of 335:",
         run_year(file, book, 1888, board, &mut few),
     )?;
     say(
         rt,
-        b"run, no book, list of 335:",
+        "run, no book, list of 335:",
         run_year(file, &book[..0], 1889, board, &mut few),
     )?;
     say(
         rt,
-        b"run of 1890, list of 335:",
+        "run of 1890, list of 335:",
         run_year(file, book, 1890, board, &mut few),
     )
 }
@@ -46,12 +46,12 @@ fn refused_runs<R: Print>(
     thirteenth[MONTH] = 12;
     say(
         rt,
-        b"run of 1890, board of a thirteenth month:",
+        "run of 1890, board of a thirteenth month:",
         run_year(file, book, 1890, &mut thirteenth, reports),
     )?;
     say(
         rt,
-        b"run of 1890, March over the limit:",
+        "run of 1890, March over the limit:",
         run_year(file, book, 1890, board, reports),
     )?;
     say_stock(rt, file, board)
@@ -64,7 +64,7 @@ pub fn call<R: Print>(rt: &R, file: &[u8], book: &[u8], board: &mut [u64]) -> io
     refused_runs(rt, file, book, board, &mut reports)?;
     say(
         rt,
-        b"run of 1889, from November:",
+        "run of 1889, from November:",
         run_year(file, book, 1889, board, &mut reports),
     )?;
     say_stock(rt, file, board)

@@ -15,17 +15,17 @@ fn refused<R: Print>(rt: &R, file: &[u8]) -> io::Result<()> {
     thirteenth[MONTH] = 12;
     say_months(
         rt,
-        b"short months, no file:",
+        "short months, no file:",
         short_months(&file[..0], &thirteenth, 0),
     )?;
     say_months(
         rt,
-        b"short months, board of 1225:",
+        "short months, board of 1225:",
         short_months(file, &thirteenth[1..], 0),
     )?;
     say_months(
         rt,
-        b"short months, board of a thirteenth month:",
+        "short months, board of a thirteenth month:",
         short_months(file, &thirteenth, 0),
     )
 }
@@ -38,19 +38,19 @@ fn wrong_words<R: Print>(rt: &R, file: &[u8]) -> io::Result<()> {
     board[WORDS] = 4096;
     say_months(
         rt,
-        b"short months, a bit above September's:",
+        "short months, a bit above September's:",
         short_months(file, &board, 0),
     )?;
     say(
         rt,
-        b"month, a bit above September's:",
+        "month, a bit above September's:",
         month(file, &[2000, 700, 300], &mut board, &mut report),
     )?;
     board[WORDS] = 0;
     board[WORDS + 5] = 1;
     say_months(
         rt,
-        b"short months, a word of right 5:",
+        "short months, a word of right 5:",
         short_months(file, &board, 0),
     )
 }
@@ -65,9 +65,10 @@ fn count<R: Print>(rt: &R, file: &[u8], board: &[u64]) -> io::Result<()> {
 
 // A right that the basin lacks was never short.
 fn no_right<R: Print>(rt: &R, file: &[u8], board: &[u64]) -> io::Result<()> {
-    let last = 18446744073709551615;
-    say_right(rt, 5, short_months(file, board, 5))?;
-    say_right(rt, last, short_months(file, board, last))
+    for right in [5, usize::MAX] {
+        say_right(rt, right, short_months(file, board, right))?;
+    }
+    Ok(())
 }
 
 pub fn call<R: Print>(rt: &R, file: &[u8], book: &[u8]) -> io::Result<()> {
@@ -78,20 +79,20 @@ pub fn call<R: Print>(rt: &R, file: &[u8], book: &[u8]) -> io::Result<()> {
     fresh(file, &mut board);
     say(
         rt,
-        b"October of 1889:",
+        "October of 1889:",
         month(file, &[2000, 700, 300], &mut board, &mut reports),
     )?;
     count(rt, file, &board)?;
     no_right(rt, file, &board)?;
     say(
         rt,
-        b"run of 1889, from November:",
+        "run of 1889, from November:",
         run_year(file, book, 1889, &mut board, &mut reports),
     )?;
     count(rt, file, &board)?;
     say(
         rt,
-        b"October of 1890:",
+        "October of 1890:",
         month(file, &[2000, 700, 300], &mut board, &mut reports),
     )?;
     count(rt, file, &board)

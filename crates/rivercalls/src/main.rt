@@ -27,26 +27,26 @@ fn wrong_lengths<R: Print>(
 ) -> io::Result<()> {
     let sheet = [2000u32, 700, 300, 0];
     let mut short = [0u64; BOARD_LENGTH - 1];
-    say(rt, b"fresh, board of 1225:", fresh(file, &mut short))?;
+    say(rt, "fresh, board of 1225:", fresh(file, &mut short))?;
     say(
         rt,
-        b"month, board of 1225:",
+        "month, board of 1225:",
         month(file, &sheet[..3], &mut short, report),
     )?;
     say(
         rt,
-        b"month, runoff of two rows:",
+        "month, runoff of two rows:",
         month(file, &sheet[..2], board, report),
     )?;
     say(
         rt,
-        b"month, runoff of four rows:",
+        "month, runoff of four rows:",
         month(file, &sheet, board, report),
     )?;
     let mut few = [0u64; 27];
     say(
         rt,
-        b"month, report of 27:",
+        "month, report of 27:",
         month(file, &sheet[..3], board, &mut few),
     )
 }
@@ -63,13 +63,13 @@ fn wrong_numbers<R: Print>(
     thirteenth[MONTH] = 12;
     say(
         rt,
-        b"month, board of a thirteenth month:",
+        "month, board of a thirteenth month:",
         month(file, &sheet, &mut thirteenth, report),
     )?;
     say_stock(rt, file, &thirteenth)?;
     say(
         rt,
-        b"month, runoff over its limit:",
+        "month, runoff over its limit:",
         month(file, &sheet, board, report),
     )
 }
@@ -77,13 +77,13 @@ fn wrong_numbers<R: Print>(
 fn call<R: Print>(rt: &R, file: &[u8], book: &[u8]) -> io::Result<()> {
     let mut board = [7u64; BOARD_LENGTH];
     let mut report = [0u64; 28];
-    say(rt, b"fresh, no file:", fresh(&file[..0], &mut board))?;
-    say(rt, b"fresh:", fresh(file, &mut board))?;
+    say(rt, "fresh, no file:", fresh(&file[..0], &mut board))?;
+    say(rt, "fresh:", fresh(file, &mut board))?;
     wrong_lengths(rt, file, &mut board, &mut report)?;
     wrong_numbers(rt, file, &mut board, &mut report)?;
     say(
         rt,
-        b"month:",
+        "month:",
         month(file, &[2000, 700, 300], &mut board, &mut report),
     )?;
     say_stock(rt, file, &board)?;

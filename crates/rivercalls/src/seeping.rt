@@ -12,39 +12,35 @@ use std::io;
 const PATTERN: usize = 124;
 
 // The first three percents of the pattern.
-fn set_percents(file: &mut [u8], first: u8, second: u8, third: u8) {
-    if file.len() < PATTERN + 3 {
-        return;
+fn set_percents(file: &mut [u8], percents: [u8; 3]) {
+    if let Some(pattern) = file.get_mut(PATTERN..PATTERN + 3) {
+        pattern.copy_from_slice(&percents);
     }
-    file[PATTERN] = first;
-    file[PATTERN + 1] = second;
-    file[PATTERN + 2] = third;
 }
 
 // The month from the fresh board: its answer and, where it is accepted, what went deep, and what it leaves.
-fn run<R: Print>(rt: &R, file: &[u8], what: &[u8]) -> io::Result<()> {
+fn run<R: Print>(rt: &R, file: &[u8], what: &str) -> io::Result<()> {
     let mut board = [0u64; BOARD_LENGTH];
     let mut report = [0u64; 28];
     fresh(file, &mut board);
     let answer = month(file, &[2000, 700, 300], &mut board, &mut report);
-    let number = answer.number;
     say(rt, what, answer)?;
-    if number == 0 {
-        say_one(rt, b"deep", report[deep_place(5, 3, 1)])?;
+    if answer.number == 0 {
+        say_one(rt, "deep", report[deep_place(5, 3, 1)])?;
         say_stock(rt, file, &board)?;
     }
     Ok(())
 }
 
 pub fn call<R: Print>(rt: &R, file: &mut [u8]) -> io::Result<()> {
-    set_percents(file, 50, 30, 20);
-    run(rt, file, b"month by 50, 30, 20:")?;
-    set_percents(file, 50, 30, 0);
-    run(rt, file, b"month by 50, 30:")?;
-    set_percents(file, 0, 0, 0);
-    run(rt, file, b"month by zeros:")?;
-    set_percents(file, 50, 30, 21);
-    run(rt, file, b"month by 50, 30, 21:")?;
-    set_percents(file, 255, 100, 1);
-    run(rt, file, b"month by 255, 100, 1:")
+    set_percents(file, [50, 30, 20]);
+    run(rt, file, "month by 50, 30, 20:")?;
+    set_percents(file, [50, 30, 0]);
+    run(rt, file, "month by 50, 30:")?;
+    set_percents(file, [0, 0, 0]);
+    run(rt, file, "month by zeros:")?;
+    set_percents(file, [50, 30, 21]);
+    run(rt, file, "month by 50, 30, 21:")?;
+    set_percents(file, [255, 100, 1]);
+    run(rt, file, "month by 255, 100, 1:")
 }

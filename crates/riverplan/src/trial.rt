@@ -31,10 +31,10 @@ fn dry_spring<R: Print + Eprint>(
     board: &mut [u64],
     text: &mut [u8],
 ) -> io::Result<()> {
-    say_save(rt, b"save MARCH:", store, b"MARCH   ", board)?;
+    say_save(rt, "save MARCH:", store, b"MARCH   ", board)?;
     print_months(rt, file, dry, MARCH, board, text);
-    say_save(rt, b"save DRY:", store, b"DRY     ", board)?;
-    say_recall(rt, b"recall MARCH:", store, b"MARCH   ", board)
+    say_save(rt, "save DRY:", store, b"DRY     ", board)?;
+    say_recall(rt, "recall MARCH:", store, b"MARCH   ", board)
 }
 
 // The spring of a year that was run from the fresh board without any trial. The text of its winter is written over.

@@ -17,31 +17,25 @@ use std::io;
 fn refused<R: Print>(rt: &R, file: &[u8], store: &mut [u8], board: &mut [u64]) -> io::Result<()> {
     let mut small = [0u8; STORE_LENGTH - 1];
     let short = [0u64; BOARD_LENGTH - 1];
-    ask(
-        rt,
-        b"a store of 39263 bytes",
-        &mut small,
-        b"MARCH   ",
-        board,
-    )?;
-    ask(rt, b"a name of seven bytes", store, b"MARCH  ", board)?;
-    ask(rt, b"a name of zeros", store, &[0; 8], board)?;
-    say_save(rt, b"save, board of 1225:", store, b"MARCH   ", &short)?;
+    ask(rt, "a store of 39263 bytes", &mut small, b"MARCH   ", board)?;
+    ask(rt, "a name of seven bytes", store, b"MARCH  ", board)?;
+    ask(rt, "a name of zeros", store, &[0; 8], board)?;
+    say_save(rt, "save, board of 1225:", store, b"MARCH   ", &short)?;
     say_stock(rt, file, board)
 }
 
 // Refusal 12: a store has four names. Refusal 11 again: a name that is not there can't be recalled nor dropped.
 fn fifth_name<R: Print>(rt: &R, store: &mut [u8], board: &mut [u64]) -> io::Result<()> {
-    say_save(rt, b"save APRIL:", store, b"APRIL   ", board)?;
-    say_save(rt, b"save MAY:", store, b"MAY     ", board)?;
-    ask(rt, b"JUNE, a fifth", store, b"JUNE    ", board)
+    say_save(rt, "save APRIL:", store, b"APRIL   ", board)?;
+    say_save(rt, "save MAY:", store, b"MAY     ", board)?;
+    ask(rt, "JUNE, a fifth", store, b"JUNE    ", board)
 }
 
 // Once a name is dropped its place serves the fifth.
 fn one_dropped<R: Print>(rt: &R, store: &mut [u8], board: &mut [u64]) -> io::Result<()> {
-    say_drop(rt, b"drop DRY:", store, b"DRY     ")?;
-    say_recall(rt, b"recall DRY:", store, b"DRY     ", board)?;
-    say_save(rt, b"save JUNE:", store, b"JUNE    ", board)
+    say_drop(rt, "drop DRY:", store, b"DRY     ")?;
+    say_recall(rt, "recall DRY:", store, b"DRY     ", board)?;
+    say_save(rt, "save JUNE:", store, b"JUNE    ", board)
 }
 
 // JUNE is renamed in the bytes. Of two equal names the earlier is meant, so the board of March is recalled and not that of September.
@@ -51,7 +45,7 @@ fn two_alike<R: Print>(rt: &R, file: &[u8], store: &mut [u8], board: &mut [u64])
     write_name(store, 1, fixed(b"MARCH   "));
     say_recall(
         rt,
-        b"recall MARCH, its name twice:",
+        "recall MARCH, its name twice:",
         store,
         b"MARCH   ",
         board,
@@ -65,7 +59,7 @@ fn save_thirteenth<R: Print>(rt: &R, store: &mut [u8]) -> io::Result<()> {
     thirteenth[MONTH] = 12;
     say_save(
         rt,
-        b"save MAY, a board of a thirteenth month:",
+        "save MAY, a board of a thirteenth month:",
         store,
         b"MAY     ",
         &thirteenth,
@@ -78,13 +72,13 @@ fn month_from<R: Print>(
     file: &[u8],
     runoff: &[u32],
     store: &[u8],
-    what: &[u8],
+    what: &str,
     name: &[u8],
     board: &mut [u64],
 ) -> io::Result<()> {
     let mut report = [0u64; MOST_REPORT];
     say_recall(rt, what, store, name, board)?;
-    say(rt, b"month:", month(file, runoff, board, &mut report))
+    say(rt, "month:", month(file, runoff, board, &mut report))
 }
 
 // March's runoff on the board of a thirteenth month, and then on March's own.
@@ -99,13 +93,13 @@ fn months<R: Print>(
 {
     let mut runoff = [0u32; STATIONS];
     decode(march, &mut runoff);
-    month_from(rt, file, &runoff, store, b"recall MAY:", b"MAY     ", board)?;
+    month_from(rt, file, &runoff, store, "recall MAY:", b"MAY     ", board)?;
     month_from(
         rt,
         file,
         &runoff,
         store,
-        b"recall MARCH:",
+        "recall MARCH:",
         b"MARCH   ",
         board,
     )?;
