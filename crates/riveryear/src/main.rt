@@ -24,15 +24,7 @@ const MOST_ASKED: usize = 1099511627776;
 fn years_asked<R: Env>(rt: &R) -> usize
     ensures { result ≤ most_asked }
 {
-    let count = word_count(rt);
-    if count < 3 {
-        return 0;
-    }
-    let years = count - 3;
-    if MOST_ASKED < years {
-        return MOST_ASKED;
-    }
-    years
+    word_count(rt).saturating_sub(3).min(MOST_ASKED)
 }
 
 // The years of the book, and then what is left to be written. Answers whether all was. The buffer is longer than any book that keeps the

@@ -1,33 +1,32 @@
 // Years as words of the command line.
-ghost use Rattle.std.specs.Prelude.{◌≡◌};
-ghost use Rattle.riveryear.specs.Words.{year_named};
+ghost use Rattle.std.specs.Prelude.{◌≡◌, ◌+◌, ◌-◌, ◌*◌, ◌≤◌, SomeIff};
+ghost use Rattle.std.specs.Char.{IsAsciiDigit};
+ghost use Rattle.riveryear.specs.Words.{most_year, year_named};
 
 use files::words::{WORD_ROOM, word};
-use numbers::wide8;
 use std::rt::Env;
 
-const MOST_YEAR: u64 = 4294967295;
+// The number with one digit more. A number that has grown too large only grows, so the rest of the word need not be read.
+fn with_digit(year: u32, c: u8) -> Option<u32>
+    ensures { SomeIff result (IsAsciiDigit c × (10 * year + (c - 48) ≤ most_year)) (10 * year + (c - 48)) }
+{
+    if !c.is_ascii_digit() {
+        return None;
+    }
+    year.checked_mul(10)?.checked_add(u32::from(c - b'0'))
+}
 
-// A number that has grown too large only grows, so the rest of the word need not be read.
 fn year_named(word: &[u8]) -> u32
     ensures { result ≡ year_named word.now }
 {
-    let n = word.len();
     let mut year = 0;
-    for i in 0..n {
-        let c = word[i];
-        if c < 48 {
+    for &c in word {
+        let Some(longer) = with_digit(year, c) else {
             return 0;
-        }
-        if 57 < c {
-            return 0;
-        }
-        year = 10 * year + (wide8(c) - 48);
-        if MOST_YEAR < year {
-            return 0;
-        }
+        };
+        year = longer;
     }
-    year as u32
+    year
 }
 
 // The year that argument i names.

@@ -1,28 +1,21 @@
--- A byte that is no digit, a number that is too large, one digit more, and the end of the word.
-use Rattle.std.proofs.Common.{◌+◌, arith, refl, ◌∙◌}
-use Rattle.riveryear.proofs.Digits.{from_start, from_end, from-large, from-below, from-above, from_next}
+-- One digit more, a byte that ends the reading, and the end of the word.
+use Rattle.std.proofs.Common.{arith, refl, sym, ◌∙◌}
+use Rattle.riveryear.specs.Words.{year_named}
+use Rattle.riveryear.proofs.Digits.{from_end, from_other, from_digit}
 use Rattle.riveryear.proofs.words.year_named.Goals as goal
 
-pub loop-i-init : goal.loop-i-init
-loop-i-init c = (refl, omega arith, from_start c.args.word.now)
+pub loop-c-init : goal.loop-c-init
+unfolding year_named
+loop-c-init c = (omega arith, refl)
 
-pub returns-then-c-lt48 : goal.returns-then-c-lt48
-returns-then-c-lt48 c = let l = c.loop-i in from-below c.args.word.now l.year l.i (omega (arith, l.invariant.0)) (omega arith) ∙ l.invariant.2
+pub returns-in_default : goal.returns-in_default
+returns-in_default c = let l = c.loop-c in sym (from_other c.args.word.now l.year l.c-index c.loop-c-test.true c.in_default.ensures) ∙ l.invariant.1
 
-pub returns-then-c-gt57 : goal.returns-then-c-gt57
-returns-then-c-gt57 c = let l = c.loop-i in from-above c.args.word.now l.year l.i (omega (arith, l.invariant.0)) (omega arith) ∙ l.invariant.2
-
-pub returns-then-year-gt-MOST_YEAR : goal.returns-then-year-gt-MOST_YEAR
-returns-then-year-gt-MOST_YEAR c =
-    let l = c.loop-i in
-    from-large c.args.word.now _ (l.i + 1) c.if-year-gt-MOST_YEAR.true
-    ∙ from_next c.args.word.now l.year l.i (omega (arith, l.invariant.0)) _ c.wide8.ensures.0 (omega arith) (omega arith)
-    ∙ l.invariant.2
-
-pub loop-i-preserved : goal.loop-i-preserved
-loop-i-preserved c =
-    let l = c.loop-i in
-    (refl, omega arith, from_next c.args.word.now l.year l.i (omega (arith, l.invariant.0)) _ c.wide8.ensures.0 (omega arith) (omega arith) ∙ l.invariant.2)
+pub loop-c-preserved : goal.loop-c-preserved
+loop-c-preserved c =
+    let l = c.loop-c in
+    let (can, longer) = c.in-Some.ensures in
+    rw longer (can.1, sym (from_digit c.args.word.now l.year l.c-index c.loop-c-test.true can.0) ∙ l.invariant.1)
 
 pub returns : goal.returns
-returns c = let l = c.loop-i in from_end c.args.word.now l.year l.i (omega (arith, l.invariant.0)) l.invariant.1 ∙ l.invariant.2
+returns c = let l = c.loop-c in sym (from_end c.args.word.now l.year l.c-index c.loop-c-test.false l.invariant.0) ∙ l.invariant.1
