@@ -62,10 +62,8 @@ pub fn fill<F: Read>(file: &mut F, buf: &mut [u8]) -> Result<usize, ReadError>
 
 // A file, open to be read. The system's paths are text: a name that is none names no file.
 pub fn open_read<R: Files>(rt: &R, path: &[u8]) -> io::Result<R::File> {
-    match std::str::from_utf8(path) {
-        Ok(name) => std::fs::open(rt, name),
-        Err(_) => Err(io::Error::from(ErrorKind::InvalidFilename)),
-    }
+    let name = std::str::from_utf8(path).map_err(|_| ErrorKind::InvalidFilename)?;
+    std::fs::open(rt, name)
 }
 
 // The bytes of a file, as far as there is room for them.
