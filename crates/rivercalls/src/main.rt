@@ -3,12 +3,15 @@
 // short months of October's rights over a year and a month; last the same October by other patterns, with what goes deep.
 #![tactic(auto)]
 
-use files::{FILE_ROOM, read_file};
+ghost use Rattle.std.specs.Prelude.{◌≤◌, length};
+
+use files::{FILE_ROOM, fill, open_read};
 use fresh::fresh;
 use month::month;
 use places::board::{BOARD_LENGTH, MONTH};
 use printing::saying::{say, say_stock};
 use std::io;
+use std::rt::Files;
 
 mod booked;
 mod counting;
@@ -17,6 +20,17 @@ mod seeping;
 
 // Room for the book of two years.
 const BOOK_ROOM: usize = 4096;
+
+// What can be read of a file, as far as a failure; nothing of one that can't be opened.
+fn read_file<'a, R: Files>(rt: &R, name: &[u8], buf: &'a mut [u8]) -> &'a [u8]
+    ensures { length result.now ≤ length buf.old }
+{
+    let Ok(mut file) = open_read(rt, name) else {
+        return &[];
+    };
+    let n = fill(&mut file, buf).unwrap_or_else(|e| e.count);
+    &buf[..n]
+}
 
 // Refusal 6: a list that is too short or too long.
 fn wrong_lengths<R: Print>(
@@ -93,9 +107,9 @@ fn call<R: Print>(rt: &R, file: &[u8], book: &[u8]) -> io::Result<()> {
 // A file that can't be read counts as empty.
 fn main(rt: HostRuntime) -> io::Result<()> {
     let mut space = [0; FILE_ROOM];
-    let file = read_file(&rt, b"october.basin.bin", &mut space).unwrap_or(&[]);
+    let file = read_file(&rt, b"october.basin.bin", &mut space);
     let mut book_space = [0; BOOK_ROOM];
-    let book = read_file(&rt, b"october.book.bin", &mut book_space).unwrap_or(&[]);
+    let book = read_file(&rt, b"october.book.bin", &mut book_space);
     call(&rt, file, book)?;
     counting::call(&rt, file, book)?;
     let n = file.len();
