@@ -1,4 +1,2 @@
 pub mod Noted
 pub mod Surveyed
-pub mod Evaporating
-pub mod Rows

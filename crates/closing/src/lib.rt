@@ -9,23 +9,25 @@ use crate::losses::evaporate;
 use crate::noting::note_shorts;
 use places::board::MONTH;
 use places::report::{AVAILABLE, deep_place, flow_place, rows_end};
+use river::River;
 
 pub mod losses;
 pub mod noting;
 
 // Flow and available flow of the rows, after the lines of n rights.
-fn put_rows(n: usize, rows: usize, flow: &[u64; 64], available: &[u64; 64], report: &mut [u64])
+fn put_rows(n: usize, rows: usize, river: &River, report: &mut [u64])
     requires { CanTell n rows report.old }
-    ensures { RowsTold n rows flow.now available.now report.old report.new }
+    ensures { RowsTold n rows river.now.flow river.now.available report.old report.new }
 {
     for w in 0..rows {
         let at = flow_place(n, w);
-        report[at] = flow[w];
-        report[at + AVAILABLE] = available[w];
+        report[at] = river.flow[w];
+        report[at + AVAILABLE] = river.available[w];
     }
 }
 
 // After September comes October.
+#[tactic(auto, unfolding(rules::specs::Month::next_month))]
 fn next_month(m: u64) -> u64
     requires { m < 12 }
     ensures { result ≡ next_month m }
@@ -49,18 +51,17 @@ pub fn end(
     reservoirs: &[u8],
     n: usize,
     rows: usize,
-    flow: &[u64; 64],
-    available: &[u64; 64],
+    river: &River,
     deep: u64,
     board: &mut [u64],
     report: &mut [u64],
 ) -> usize
     requires { CanEnd reservoirs.now n rows board.old report.old }
-    ensures { Ended reservoirs.now n rows flow.now available.now deep board.old report.old board.new report.new result }
+    ensures { Ended reservoirs.now n rows river.now.flow river.now.available deep board.old report.old board.new report.new result }
 {
     let m = board[MONTH];
     let shorts = note_shorts(n, m, board, report);
-    put_rows(n, rows, flow, available, report);
+    put_rows(n, rows, river, report);
     evaporate(reservoirs, in_year(m), board, report, rows_end(n, rows));
     report[deep_place(n, rows, reservoirs.len() / 68)] = deep;
     board[MONTH] = next_month(m);

@@ -4,7 +4,6 @@ ghost use Rattle.records.specs.Records.{reservoir_count, survey_of, reservoir_of
 ghost use Rattle.rules.specs.Month.{towards, on_line, area_at};
 ghost use Rattle.closing.specs.Losses.{OnLine, loss_in, CanEvaporate, Lost};
 
-use numbers::{lesser, wide16, wide32};
 use places::board::storage_place;
 use records::reservoirs::{area_at, content_at, depth_at};
 
@@ -24,8 +23,8 @@ fn on_line(reservoirs: &[u8], v: usize, k: usize, low: u64, high: u64, storage: 
     requires { OnLine reservoirs.now v k low high storage }
     ensures { (result ≡ on_line (survey_of reservoirs.now v k) (survey_of reservoirs.now v (k + 1)) storage) × (result < 4294967296) }
 {
-    let from = wide32(area_at(reservoirs, v, k));
-    let to = wide32(area_at(reservoirs, v, k + 1));
+    let from = u64::from(area_at(reservoirs, v, k));
+    let to = u64::from(area_at(reservoirs, v, k + 1));
     towards(from, to, storage - low, high - low)
 }
 
@@ -34,18 +33,18 @@ fn lake_area(reservoirs: &[u8], v: usize, storage: u64) -> u64
     requires { v < reservoir_count reservoirs.now }
     ensures { (result ≡ area_at (reservoir_of reservoirs.now v) storage) × (result < 4294967296) }
 {
-    let mut low = wide32(content_at(reservoirs, v, 0));
+    let mut low = u64::from(content_at(reservoirs, v, 0));
     if storage < low {
         return 0;
     }
     for k in 0..3 {
-        let high = wide32(content_at(reservoirs, v, k + 1));
+        let high = u64::from(content_at(reservoirs, v, k + 1));
         if storage < high {
             return on_line(reservoirs, v, k, low, high, storage);
         }
         low = high;
     }
-    wide32(area_at(reservoirs, v, 3))
+    u64::from(area_at(reservoirs, v, 3))
 }
 
 // What reservoir v loses in month m, at most what it holds.
@@ -54,8 +53,8 @@ fn loss(reservoirs: &[u8], m: usize, v: usize, storage: u64) -> u64
     ensures { (result ≡ loss_in reservoirs.now m v storage) × (result ≤ storage) }
 {
     let area = lake_area(reservoirs, v, storage);
-    let depth = wide16(depth_at(reservoirs, v, m));
-    lesser(storage, area * depth)
+    let depth = u64::from(depth_at(reservoirs, v, m));
+    storage.min(area * depth)
 }
 
 // Step 4: each reservoir loses its evaporation, which the report tells from the place `at` on.

@@ -2,7 +2,7 @@
 ghost use Rattle.std.specs.Prelude.{◌≡◌};
 ghost use Rattle.closing.specs.Noting.{reasons_in, CanNote, WordsNoted};
 
-use numbers::{one_if, put_bit};
+use numbers::put_bit;
 use places::board::word_place;
 use places::report::{REASON, line_place};
 
@@ -16,7 +16,7 @@ pub fn note_shorts(n: usize, m: u64, board: &mut [u64], report: &[u64]) -> usize
         let place = word_place(i);
         let short = report[line_place(i) + REASON] != 0;
         board[place] = put_bit(board[place], m, short);
-        shorts += one_if(short);
+        shorts += usize::from(short);
     }
     shorts
 }

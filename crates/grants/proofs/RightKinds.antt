@@ -1,14 +1,13 @@
 -- The stages of a turn, kind by kind. Assumes nothing.
-use mathlib.Core.Bool.{Bool, true, false, ◌&&◌}
+use mathlib.Core.Bool.{true, false}
 use mathlib.Core.List.{List, [], ◌∷◌}
-use mathlib.Core.Path.{◌≡◌, refl, sym, ap, ◌∙◌}
+use mathlib.Core.Path.{◌≡◌, refl, sym, ◌∙◌}
 use Prim.Native.Nat.{ℕ, ◌+◌, ◌-◌, ◌^◌, ◌≤◌, ◌<◌, min}
 use native.Mathlib.Nat.{pow-le-pow_right}
 use native.Mathlib.Omega.{arith}
-use lib.Dec.{ltb, eqb}
 use lib.ListN.{length, get_or, set, length-set}
 use lib.Seq.{get_or-set_other, set-get_or}
-use Rattle.general.proofs.Tests.{absurd-bool, eqb-other, eqb_same, ltb_yes, ltb_no}
+use Rattle.general.proofs.Tests.{absurd-bool}
 use Rattle.places.specs.Board.{storage_place, marks_place, taken_place, storage_at, marks_at, taken_at}
 use Rattle.rules.specs.Path.{until_row}
 use Rattle.rules.specs.River.{diverted, reserved, released}
@@ -19,7 +18,7 @@ use Rattle.records.specs.Records.{right_record, amount_at}
 use Rattle.records.specs.Table.{path_by}
 use Rattle.river.specs.Arrays.{levels_of, Walked, Raised}
 use Rattle.river.proofs.Levels.{walk-done, change-idle, available-here, available-other, reserved-level, diverted-zero, reserved-zero, released-zero}
-use Rattle.grants.specs.Stages.{is_instream, amount_in, levels_taken, Taken, marked_board, poured, drawn_in, board_drawn, levels_released, home_row, Drawn}
+use Rattle.grants.specs.Stages.{is_instream, amount_in, levels_taken, Taken, drawn_in, board_drawn, levels_released, home_row, Drawn}
 
 -- ---- the mark of one of eight reservoirs
 
@@ -68,38 +67,6 @@ module _ (d : ℕ) (t : List ℕ) (row : ℕ) (f a : List ℕ) where
 
     pub taken-along : (k : Kind) → is_instream k ≡ false → Taken k t row d f a f' a'
     taken-along k e = record { levels = λ n. along-path n k e; flow_size = w.flow_size; available_size = w.available_size }
-
--- ---- the storage of a storage right
-
--- by the tests of the code
-module _ (capacity v i d : ℕ) (bd : List ℕ) where
-  abbrev plain : List ℕ
-  plain = set (set bd (storage_place v) (storage_at bd v + d)) (taken_place i) (taken_at bd i + d)
-
-  pub poured-none : d ≡ 0 → plain ≡ poured capacity v i d bd
-  poured-none e = rw (ltb_no 0 d (omega arith))
-
-  pub poured-part : (storage_at bd v + d ≡ capacity → ⊥) → plain ≡ poured capacity v i d bd
-  poured-part n = rw (eqb-other (storage_at bd v + d) capacity n) (go (ltb 0 d))
-    where
-      go : (t : Bool) → plain ≡ marked_board (t && false) plain v
-      go true = refl
-      go false = refl
-
-  pub poured-full : (x : ℕ) → (d ≡ 0 → ⊥) → storage_at bd v + d ≡ capacity → x ≡ marks_at plain + 2 ^ v → set plain marks_place x ≡ poured capacity v i d bd
-  poured-full x n e f = ap (set plain marks_place) f ∙ ap (λ (t : Bool). marked_board t plain v) (sym (full (ltb 0 d) (eqb (storage_at bd v + d) capacity) (ltb_yes 0 d (omega arith)) (ap (λ (y : ℕ). eqb y capacity) e ∙ eqb_same capacity)))
-    where
-      full : (s t : Bool) → s ≡ true → t ≡ true → (s && t) ≡ true
-      full true t p q = q
-      full false t p q = absurd-bool p refl
-
--- the same, at the places as they were looked up
-pub poured-at : (capacity v i d : ℕ) (bd : List ℕ) (x : ℕ) {p q : ℕ} → p ≡ storage_place v → q ≡ taken_place i → (d ≡ 0 → ⊥) → get_or bd p 0 + d ≡ capacity → x ≡ 2 ^ v
-    → set (set (set bd p (get_or bd p 0 + d)) q (get_or bd q 0 + d)) marks_place (get_or (set (set bd p (get_or bd p 0 + d)) q (get_or bd q 0 + d)) marks_place 0 + x) ≡ poured capacity v i d bd
-poured-at capacity v i d bd x ep eq n e f = rw (ep, eq) (poured-full capacity v i d bd _ n (ap (λ (j : ℕ). get_or bd j 0 + d) (sym ep) ∙ e) (ap (λ (y : ℕ). marks_at plain + y) f))
-  where
-    plain : List ℕ
-    plain = set (set bd (storage_place v) (storage_at bd v + d)) (taken_place i) (taken_at bd i + d)
 
 -- ---- the part from storage
 

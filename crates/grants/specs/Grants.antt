@@ -10,8 +10,15 @@ use Rattle.river.specs.declared.Seen.TheVariants as seen
 use Rattle.records.specs.Table.{path_by, OnTable}
 use Rattle.river.specs.Arrays.{seen_on}
 use Rattle.grants.specs.declared.grants.Reason.{Reason}
-use Rattle.grants.specs.declared.grants.Reason.TheVariants.{Called, RiverLow}
+use Rattle.grants.specs.declared.grants.Reason.TheVariants.{Met, Called, RiverLow, StorageOut}
 use Rattle.grants.specs.declared.grants.RiverPart.{RiverPart}
+
+-- 01's number of a reason
+unfoldable pub why_of : Reason → ℕ
+why_of Met = 0
+why_of (Called s) = 1
+why_of (RiverLow s) = 2
+why_of StorageOut = 3
 
 -- a row of the table, and a station at each row of its path
 pub record CanSee (st t : List ℕ) (row : ℕ) : Type 0 where

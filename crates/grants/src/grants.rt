@@ -2,12 +2,11 @@
 ghost use Rattle.std.specs.Prelude.{◌≡◌, ◌<◌};
 ghost use Rattle.rules.specs.Turn.{number_at};
 ghost use Rattle.records.specs.Records.{rows_of, stations_of};
-ghost use Rattle.grants.specs.Grants.{CanSee, RiverGave};
+ghost use Rattle.grants.specs.Grants.{why_of, CanSee, RiverGave};
 
 use numbers::bytes::le32;
-use numbers::lesser;
 use records::rights::Kind;
-use river::{Seen, look};
+use river::{River, Seen};
 
 // Why a right is short. The called and the river-low case carry the number of the controlling station; a project right's is that of its reservoir.
 #[derive(Clone, Copy)]
@@ -16,6 +15,21 @@ pub enum Reason {
     Called(u32),
     RiverLow(u32),
     StorageOut,
+}
+
+// 01's number for a reason.
+impl From<Reason> for u64 {
+    ghost from_gives = { λ reason number. number ≡ why_of reason };
+
+    #[tactic(auto, unfolding(crate::specs::Grants::why_of))]
+    fn from(reason: Reason) -> u64 {
+        match reason {
+            Reason::Met => 0,
+            Reason::Called(_) => 1,
+            Reason::RiverLow(_) => 2,
+            Reason::StorageOut => 3,
+        }
+    }
 }
 
 // What a right is granted and why no more, and what of it goes deep.
@@ -46,14 +60,14 @@ pub fn station_number(stations: &[u8], row: usize) -> u32
 pub fn river_part(
     stations: &[u8],
     below: &[u8; 64],
-    available: &[u64; 64],
+    river: &River,
     short: &[bool; 64],
     kind: Kind,
     row: usize,
     demand: u64,
 ) -> RiverPart
     requires { CanSee stations.now below.now row }
-    ensures { RiverGave stations.now below.now available.now short.now kind row demand result }
+    ensures { RiverGave stations.now below.now river.now.available short.now kind row demand result }
 {
     if demand == 0 {
         return RiverPart {
@@ -63,18 +77,18 @@ pub fn river_part(
     }
     if let Kind::Instream = kind {
         return RiverPart {
-            part: lesser(demand, available[row]),
+            part: demand.min(river.available[row]),
             reason: Reason::RiverLow(station_number(stations, row)),
         };
     }
-    let seen = look(below, short, available, row, row);
+    let seen = river.look(below, short, row, row);
     match seen {
         Seen::Called(q) => RiverPart {
             part: 0,
             reason: Reason::Called(station_number(stations, q)),
         },
         Seen::Low(q) => RiverPart {
-            part: lesser(demand, available[q]),
+            part: demand.min(river.available[q]),
             reason: Reason::RiverLow(station_number(stations, q)),
         },
     }

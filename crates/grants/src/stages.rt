@@ -6,19 +6,20 @@ ghost use Rattle.records.specs.Records.{right_count, right_record};
 ghost use Rattle.grants.specs.Stages.{amount_in, ask_of, RoomLeft, ask_in, CanAsk, CanTake, Taken, capacity_in, poured, CanPour, board_stored, CanFill, CanDraw, Drawn};
 
 use numbers::bytes::le32;
-use numbers::{bit_of, index, lesser, power, wide_size, wide16, wide32};
+use numbers::{bit_of, power};
 use places::board::{MARKS, storage_place, taken_place};
 use records::reservoirs::reservoir_at;
 use records::rights::{Kind, RightRecord};
-use river::{divert, release};
+use river::River;
 
 // The amount of month m, if that month is in use.
+#[tactic(auto, unfolding(crate::specs::Stages::amount_in, records::specs::Records::amount_at))]
 fn scheduled(rights: &[u8], i: usize, right: RightRecord, m: usize) -> u64
     requires { (i < right_count rights.now) × (m < 12) × (right ≡ right_record rights.now i) }
     ensures { result ≡ amount_in rights.now i m }
 {
-    if bit_of(wide16(right.months), wide_size(m)) {
-        return wide32(le32(rights, 76 * i + 20 + 4 * m));
+    if bit_of(u64::from(right.months), m as u64) {
+        return u64::from(le32(rights, 76 * i + 20 + 4 * m));
     }
     0
 }
@@ -30,7 +31,7 @@ fn storage_demand(amount: u64, marked: bool, limit_left: u64, capacity_left: u64
     if marked {
         return 0;
     }
-    lesser(amount, lesser(limit_left, capacity_left))
+    amount.min(limit_left.min(capacity_left))
 }
 
 // What a storage right asks for, of an amount scheduled.
@@ -38,15 +39,16 @@ fn storage_ask(reservoirs: &[u8], i: usize, right: RightRecord, amount: u64, boa
     requires { (i < 256) × (length board.now ≡ board_length) × RoomLeft reservoirs.now right i board.now }
     ensures { result ≡ ask_of reservoirs.now right i amount board.now }
 {
-    let v = index(right.reservoir);
+    let v = usize::from(right.reservoir);
     let reservoir = reservoir_at(reservoirs, v);
-    let limit_left = wide32(right.limit) - board[taken_place(i)];
-    let capacity_left = wide32(reservoir.capacity) - board[storage_place(v)];
-    let marked = bit_of(board[MARKS], wide_size(v));
+    let limit_left = u64::from(right.limit) - board[taken_place(i)];
+    let capacity_left = u64::from(reservoir.capacity) - board[storage_place(v)];
+    let marked = bit_of(board[MARKS], v as u64);
     storage_demand(amount, marked, limit_left, capacity_left)
 }
 
 // What right i asks for in month m.
+#[tactic(auto, unfolding(crate::specs::Stages::ask_in))]
 pub fn demand_of(
     reservoirs: &[u8],
     rights: &[u8],
@@ -67,25 +69,18 @@ pub fn demand_of(
 }
 
 // The river part d leaves the river: an instream right's the available flow at its row alone, another's flow and available flow along the path. A part of nothing is no work.
-pub fn take(
-    below: &[u8; 64],
-    flow: &mut [u64; 64],
-    available: &mut [u64; 64],
-    kind: Kind,
-    row: usize,
-    d: u64,
-)
-    requires { CanTake kind below.now row d flow.old available.old }
-    ensures { Taken kind below.now row d flow.old available.old flow.new available.new }
+pub fn take(below: &[u8; 64], river: &mut River, kind: Kind, row: usize, d: u64)
+    requires { CanTake kind below.now row d river.old.flow river.old.available }
+    ensures { Taken kind below.now row d river.old.flow river.old.available river.new.flow river.new.available }
 {
     if d == 0 {
         return;
     }
     if let Kind::Instream = kind {
-        available[row] = available[row] - d;
+        river.available[row] = river.available[row] - d;
         return;
     }
-    divert(below, flow, available, row, d);
+    river.divert(below, row, d);
 }
 
 // d more in reservoir v, and in the water that right i has taken this year. What fills the reservoir with more than nothing sets its mark.
@@ -103,13 +98,14 @@ fn pour(reservoirs: &[u8], board: &mut [u64], v: usize, i: usize, d: u64)
     if d == 0 {
         return;
     }
-    if held != wide32(reservoir.capacity) {
+    if held != u64::from(reservoir.capacity) {
         return;
     }
-    board[MARKS] = board[MARKS] + power(wide_size(v));
+    board[MARKS] = board[MARKS] + power(v as u64);
 }
 
 // A storage right stores its part; for other kinds nothing happens.
+#[tactic(auto, unfolding(crate::specs::Stages::board_stored))]
 pub fn fill(reservoirs: &[u8], board: &mut [u64], kind: Kind, v: usize, i: usize, d: u64)
     requires { CanFill kind reservoirs.now v i d board.old }
     ensures { board.new ≡ board_stored kind (capacity_in reservoirs.now v) v i d board.old }
@@ -124,27 +120,27 @@ pub fn fill(reservoirs: &[u8], board: &mut [u64], kind: Kind, v: usize, i: usize
 pub fn draw(
     below: &[u8; 64],
     reservoirs: &[u8],
-    flow: &mut [u64; 64],
+    river: &mut River,
     board: &mut [u64],
     kind: Kind,
     v: usize,
     row: usize,
     lacking: u64,
 ) -> u64
-    requires { CanDraw kind below.now reservoirs.now v lacking flow.old board.old }
-    ensures { Drawn kind below.now reservoirs.now v row lacking flow.old board.old flow.new board.new result }
+    requires { CanDraw kind below.now reservoirs.now v lacking river.old.flow board.old }
+    ensures { Drawn kind below.now reservoirs.now v row lacking river.old.flow board.old river.new.flow board.new result × (river.new.available ≡ river.old.available) }
 {
     let Kind::Project = kind else {
         return 0;
     };
     let storage = storage_place(v);
     let held = board[storage];
-    let x = lesser(lacking, held);
+    let x = lacking.min(held);
     if x == 0 {
         return 0;
     }
     board[storage] = held - x;
     let reservoir = reservoir_at(reservoirs, v);
-    release(below, flow, index(reservoir.row), row, x);
+    river.release(below, usize::from(reservoir.row), row, x);
     x
 }

@@ -20,7 +20,7 @@ use Rattle.turns.specs.Lines.{turns_from, Served}
 use Rattle.closing.specs.Losses.{loss_in, Lost}
 use Rattle.closing.specs.Noting.{WordsNoted}
 use Rattle.places.specs.Board.{month_place, storage_place, marks_place, taken_place, due_place, words_from, word_place, board_length, month_at, storage_at, marks_at, taken_at, due_at}
-use Rattle.turns.specs.State.{marks_of, taken_of, state_of, Setting}
+use Rattle.turns.specs.State.{marks_of, taken_of, state_of, SettingOf}
 use Rattle.turns.proofs.Facts.{reservoirs-count, reservoir-is}
 use Rattle.turns.proofs.Places.{storage-at, taken_at_lem}
 use Rattle.boards.specs.Board.{carried_of, word_of, possible}
@@ -33,7 +33,7 @@ use Rattle.month.proofs.Words.{word-told}
 
 -- ---- the month that was run
 
-module _ (b : Basin) (st t rs : List ℕ) (pa : List (List ℕ)) (ri : List ℕ) (w : Setting b st t rs pa ri) (runoff bd : List ℕ) (can : possible b bd ≡ true)
+module _ (b : Basin) (st t rs : List ℕ) (pa : List (List ℕ)) (ri : List ℕ) (w : SettingOf b st t rs pa ri) (runoff bd : List ℕ) (can : possible b bd ≡ true)
     (f a : List ℕ) (sh : List Bool) (start : state_of b f a sh (opened bd) ≡ opening b (carried_of b bd) runoff (tab (rows b) (λ u. due_at bd u 1))) (m : ℕ) (em : m ≡ month_at bd)
     (rp f₂ a₂ : List ℕ) (sh₂ : List Bool) (bd₂ rp₁ : List ℕ) (c : ℕ) (q : Served b m f a sh (opened bd) rp f₂ a₂ sh₂ bd₂ rp₁ c) where
   abbrev h : MonthRun

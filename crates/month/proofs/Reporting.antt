@@ -19,7 +19,7 @@ use Rattle.records.specs.Records.{reservoir_count}
 use Rattle.river.specs.Arrays.{row_level, levels_of}
 use Rattle.turns.specs.Lines.{LinesTo, turns_from, Served}
 use Rattle.closing.specs.Losses.{loss_in, Lost}
-use Rattle.turns.specs.State.{state_of, Setting}
+use Rattle.turns.specs.State.{state_of, SettingOf}
 use Rattle.turns.proofs.Facts.{reservoirs-count}
 use Rattle.places.specs.Board.{month_at, storage_at, due_at}
 use Rattle.boards.specs.Board.{carried_of, possible}
@@ -34,7 +34,7 @@ use Rattle.month.proofs.Closing.{loss-is}
 
 -- ---- the report of the month that was run
 
-module _ (b : Basin) (st t rs : List ℕ) (pa : List (List ℕ)) (ri : List ℕ) (w : Setting b st t rs pa ri) (runoff bd : List ℕ) (can : possible b bd ≡ true)
+module _ (b : Basin) (st t rs : List ℕ) (pa : List (List ℕ)) (ri : List ℕ) (w : SettingOf b st t rs pa ri) (runoff bd : List ℕ) (can : possible b bd ≡ true)
     (f a : List ℕ) (sh : List Bool) (start : state_of b f a sh (opened bd) ≡ opening b (carried_of b bd) runoff (tab (rows b) (λ u. due_at bd u 1))) (m : ℕ) (em : m ≡ month_at bd)
     (rp f₂ a₂ : List ℕ) (sh₂ : List Bool) (bd₂ rp₁ : List ℕ) (c : ℕ) (q : Served b m f a sh (opened bd) rp f₂ a₂ sh₂ bd₂ rp₁ c) where
   abbrev h : MonthRun

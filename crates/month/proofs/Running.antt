@@ -25,7 +25,7 @@ use Rattle.closing.specs.Losses.{Lost}
 use Rattle.closing.specs.Noting.{WordsNoted}
 use Rattle.opening.specs.Opening.{most_inflow, inflow, CanGather, Gathered, CanOpen}
 use Rattle.places.specs.Board.{BoardOk, month_place, storage_place, dues_of, due_place, words_from, board_length, month_at, storage_at, marks_at, taken_at, due_at, word_at}
-use Rattle.turns.specs.State.{state_of, Setting, Within}
+use Rattle.turns.specs.State.{state_of, SettingOf, Within}
 use Rattle.turns.proofs.Facts.{downhill, path-in}
 use Rattle.opening.proofs.Openings.{gathered-river, opening-is}
 use Rattle.places.specs.Report.{rows_end}
@@ -143,7 +143,7 @@ module _ (w : Bodies) (runoff bd rp : List ℕ) (c : CanRun (basin_in w) runoff 
   abbrev b : Basin
   b = basin_in w
 
-  pub setting : Setting b w.stations.now t w.reservoirs.now pa w.rights.now
+  pub setting : SettingOf b w.stations.now t w.reservoirs.now pa w.rights.now
   unfolding bodies
   setting = record { accepted = c.accepted; stations = refl; table = et; reservoirs = refl; patterns = λ k h. ap (λ (x : List (List ℕ)). get_or x k []) epa ∙ sixteen w.patterns.now k h; rights = refl }
 

@@ -15,7 +15,7 @@ use Rattle.rules.specs.Month.{MonthRun, opening, turns, after_turns, returned_by
 use Rattle.rules.proofs.Splits.{PartsIn, parts_in}
 use Rattle.turns.specs.Lines.{turns_from, Served}
 use Rattle.places.specs.Board.{month_at, due_at}
-use Rattle.turns.specs.State.{state_of, Setting}
+use Rattle.turns.specs.State.{state_of, SettingOf}
 use Rattle.boards.specs.Board.{carried_of, possible}
 use Rattle.month.specs.Month.{run_of}
 use Rattle.month.proofs.Opened.{opened}
@@ -38,7 +38,7 @@ returns-beyond b m i (r ∷ rs) s w k h l = omega (
 
 -- ---- the month that was run
 
-module _ (b : Basin) (st t rs : List ℕ) (pa : List (List ℕ)) (ri : List ℕ) (w : Setting b st t rs pa ri) (runoff bd : List ℕ) (can : possible b bd ≡ true)
+module _ (b : Basin) (st t rs : List ℕ) (pa : List (List ℕ)) (ri : List ℕ) (w : SettingOf b st t rs pa ri) (runoff bd : List ℕ) (can : possible b bd ≡ true)
     (f a : List ℕ) (sh : List Bool) (start : state_of b f a sh (opened bd) ≡ opening b (carried_of b bd) runoff (tab (rows b) (λ u. due_at bd u 1))) (m : ℕ) (em : m ≡ month_at bd)
     (rp f₂ a₂ : List ℕ) (sh₂ : List Bool) (bd₂ rp₁ : List ℕ) (c : ℕ) (q : Served b m f a sh (opened bd) rp f₂ a₂ sh₂ bd₂ rp₁ c) where
   abbrev h : MonthRun

@@ -20,7 +20,7 @@ use Rattle.rules.specs.Turn.{Grant, Turn}
 use Rattle.rules.specs.Month.{MonthRun, no_grant, grant_at, reason_number, is_short, opening_shorts, noted, opening, month, short_count}
 use Rattle.rules.proofs.Months.{turns-length}
 use Rattle.turns.specs.Lines.{Served}
-use Rattle.turns.specs.State.{state_of, Setting}
+use Rattle.turns.specs.State.{state_of, SettingOf}
 use Rattle.places.specs.Board.{word_place, month_at, due_at, word_at}
 use Rattle.places.proofs.BoardPlaces.{word-as-due, place_read}
 use Rattle.boards.specs.Board.{carried_of, word_of, possible}
@@ -31,7 +31,7 @@ use Rattle.month.specs.Month.{run_of}
 use Rattle.month.proofs.Opened.{opened, opened-short}
 use Rattle.month.proofs.Turned.{returns-beyond, turns-are}
 
-module _ (b : Basin) (st t rs : List ℕ) (pa : List (List ℕ)) (ri : List ℕ) (w : Setting b st t rs pa ri) (runoff bd : List ℕ) (can : possible b bd ≡ true)
+module _ (b : Basin) (st t rs : List ℕ) (pa : List (List ℕ)) (ri : List ℕ) (w : SettingOf b st t rs pa ri) (runoff bd : List ℕ) (can : possible b bd ≡ true)
     (f a : List ℕ) (sh : List Bool) (start : state_of b f a sh (opened bd) ≡ opening b (carried_of b bd) runoff (tab (rows b) (λ u. due_at bd u 1))) (m : ℕ) (em : m ≡ month_at bd)
     (rp f₂ a₂ : List ℕ) (sh₂ : List Bool) (bd₂ rp₁ : List ℕ) (c : ℕ) (q : Served b m f a sh (opened bd) rp f₂ a₂ sh₂ bd₂ rp₁ c) where
   abbrev h : MonthRun

@@ -11,6 +11,8 @@ use places::board::MONTH;
 use records::bodies::Bodies;
 use records::network::rows_below;
 use records::patterns::decode_patterns;
+use river::River;
+use turns::Setting;
 use turns::lines::serve_all;
 
 // The month itself. Answers how many rights are short.
@@ -18,32 +20,24 @@ pub fn run(bodies: &Bodies<'_>, runoff: &[u32], board: &mut [u64], report: &mut 
     requires { CanRun (basin_in bodies.now) runoff.now board.old report.old }
     ensures { Ran (basin_in bodies.now) runoff.now board.old report.old board.new report.new result }
 {
-    let below = rows_below(bodies.stations);
-    let table = decode_patterns(bodies.patterns);
-    let mut flow = [0u64; 64];
-    let mut available = [0u64; 64];
+    let setting = Setting {
+        bodies: *bodies,
+        below: rows_below(bodies.stations),
+        sums: decode_patterns(bodies.patterns),
+    };
+    let mut river = River {
+        flow: [0; 64],
+        available: [0; 64],
+    };
     let mut short = [false; 64];
-    begin(&below, runoff, &mut flow, &mut available, board);
+    begin(&setting.below, runoff, &mut river, board);
     let m = in_year(board[MONTH]);
-    let deep = serve_all(
-        bodies.stations,
-        &below,
-        bodies.reservoirs,
-        table,
-        bodies.rights,
-        m,
-        &mut flow,
-        &mut available,
-        &mut short,
-        board,
-        report,
-    );
+    let deep = serve_all(&setting, m, &mut river, &mut short, board, report);
     end(
         bodies.reservoirs,
         bodies.right_count(),
         bodies.rows(),
-        &flow,
-        &available,
+        &river,
         deep,
         board,
         report,

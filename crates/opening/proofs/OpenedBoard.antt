@@ -2,12 +2,16 @@
 use mathlib.Core.Bool.{Bool, true, false, cond}
 use mathlib.Core.List.{List}
 use mathlib.Core.Path.{◌≡◌, refl, sym, ap, ◌∙◌}
-use Prim.Native.Nat.{ℕ, suc, ◌+◌, ◌≤◌, ◌<◌}
+use Prim.Native.Nat.{ℕ, suc, ◌+◌, ◌-◌, ◌≤◌, ◌<◌}
 use native.Mathlib.Decide.{dec_lt}
 use native.Mathlib.Omega.{arith}
 use lib.Dec.{ltb, eqb}
-use lib.ListN.{length, get_or, set, length-set}
+use lib.ListN.{length, get_or, set, take, drop, length-set}
 use lib.Seq.{get_or-set_same, get_or-set_other}
+use borrow.Rule.Slice.PartMut.{put_mid}
+use Rattle.std.proofs.Common.{rules, replicate}
+use Rattle.std.specs.List.{CopiedTo, SameBelow, SameFrom}
+use Rattle.std.proofs.lemmas.List.{places, length-replicate, get_or-replicate}
 use Rattle.general.specs.Tables.{tab}
 use Rattle.general.proofs.Tables.{tab-length, tab-at, tab-of, tab-same}
 use Rattle.general.proofs.Tests.{eqb-other, by_eqb, ltb_yes, ltb_no}
@@ -61,6 +65,27 @@ module _ (bd : List ℕ) (from to p : ℕ) where
   pub zeroed-after : from ≤ p → to ≤ p → get_or bd p 0 ≡ zeroed_at bd from to p
   unfolding zeroed_at
   zeroed-after h k = rw (ltb_no p from h, ltb_no p to k)
+
+-- a run of zeros, as it is written
+pub zeros : (bd ys : List ℕ) (from k : ℕ) → length bd ≡ board_length → from + k ≤ board_length → ys ≡ replicate (length (take k (drop from bd))) 0 → put_mid from k bd ys ≡ tab board_length (zeroed_at bd from (from + k))
+zeros bd ys from k long fits e = sym (tab-of (put_mid from k bd ys) 0 board_length (zeroed_at bd from (from + k)) size (λ p h. sym (at p (dec_lt p from) (dec_lt p (from + k)))))
+  where
+    part-long : length (take k (drop from bd)) ≡ k
+    part-long = search (rules, places)
+
+    ys-long : length ys ≡ k
+    ys-long = rw (e, part-long) (length-replicate k 0)
+
+    size : length (put_mid from k bd ys) ≡ board_length
+    size = search (rules, places)
+
+    middle : (p : ℕ) → from ≤ p → p < from + k → get_or (put_mid from k bd ys) p 0 ≡ 0
+    middle p h m = let z : get_or ys (p - from) 0 ≡ 0 = rw (e, part-long) (get_or-replicate k (p - from) 0 0 (omega arith)) in search (rules, places)
+
+    at : (p : ℕ) → Dec (p < from) → Dec (p < from + k) → get_or (put_mid from k bd ys) p 0 ≡ zeroed_at bd from (from + k) p
+    at p (yes h) _ = let z : get_or (put_mid from k bd ys) p 0 ≡ get_or bd p 0 = search (rules, places) in z ∙ zeroed-before bd from (from + k) p h
+    at p (no h) (yes m) = let z : get_or (put_mid from k bd ys) p 0 ≡ 0 = middle p (omega arith) m in z ∙ zeroed-here bd from (from + k) p (omega arith) m
+    at p (no h) (no m) = let z : get_or (put_mid from k bd ys) p 0 ≡ get_or bd p 0 = search (rules, places) in z ∙ zeroed-after bd from (from + k) p (omega arith) (omega arith)
 
 module _ (bd : List ℕ) (october : Bool) (p : ℕ) where
   cleared-before : p < marks_place → get_or bd p 0 ≡ cleared_at bd october p
@@ -134,6 +159,29 @@ module _ (bd : List ℕ) (n p : ℕ) where
   pub ended-after : dues_from ≤ p → dues_of n ≤ p → get_or bd p 0 ≡ ended_at bd n p
   unfolding ended_at
   ended-after h k = rw (ltb_no p dues_from h, ltb_no p (dues_of n) k)
+
+-- the dues of n rows moved as one block
+module _ (bd x : List ℕ) (n : ℕ) (long : length x ≡ board_length) where
+  moved-all : ((p : ℕ) → Dec (p < dues_from) → Dec (p + 1 < dues_of n) → get_or x p 0 ≡ moved_at bd n p) → x ≡ tab board_length (moved_at bd n)
+  moved-all at = sym (tab-of x 0 board_length (moved_at bd n) long (λ p h. sym (at p (dec_lt p dues_from) (dec_lt (p + 1) (dues_of n)))))
+
+  pub moved-block : (to : ℕ) → to ≡ dues_of n → 0 < n → CopiedTo bd x 267 dues_from (to - 267) × SameBelow bd x dues_from × SameFrom bd x (dues_from + (to - 267)) → x ≡ tab board_length (moved_at bd n)
+  moved-block to e some w = moved-all at
+    where
+      at : (p : ℕ) → Dec (p < dues_from) → Dec (p + 1 < dues_of n) → get_or x p 0 ≡ moved_at bd n p
+      at p (yes h) _ = w.1 p 0 h ∙ moved_before bd n p h
+      at p (no h) (yes m) =
+          let z : 267 + (p - dues_from) ≡ p + 1 = omega arith in
+          w.0 p 0 (omega arith) (omega (arith, e)) ∙ ap (λ (j : ℕ). get_or bd j 0) z ∙ moved_here bd n p (omega arith) m
+      at p (no h) (no m) = w.2 p 0 (omega (arith, e)) ∙ moved-after bd n p (omega arith) (omega arith)
+
+-- without a row there is no due to move
+pub moved-none : (bd : List ℕ) (n : ℕ) → length bd ≡ board_length → n ≡ 0 → bd ≡ tab board_length (moved_at bd n)
+moved-none bd n long e = moved-all bd bd n long at
+  where
+    at : (p : ℕ) → Dec (p < dues_from) → Dec (p + 1 < dues_of n) → get_or bd p 0 ≡ moved_at bd n p
+    at p (yes h) _ = moved_before bd n p h
+    at p (no h) _ = moved-after bd n p (omega arith) (omega (arith, e))
 
 -- ---- the three steps open the board
 

@@ -2,19 +2,9 @@
 ghost use Rattle.std.specs.Prelude.{◌≡◌, ◌≤◌, length};
 ghost use Rattle.general.specs.Tables.{tab};
 ghost use Rattle.places.specs.Board.{board_length};
-ghost use Rattle.opening.specs.Opening.{CanOpen, zeroed_at, cleared_at, moved_at, ended_at, opened_board};
+ghost use Rattle.opening.specs.Opening.{CanOpen, cleared_at, moved_at, ended_at, opened_board};
 
 use places::board::{BOARD_LENGTH, DUES, MARKS, MONTHS_DUE, WORDS, due_place, dues_of};
-
-// Zeros from one place up to another.
-fn clear(board: &mut [u64], from: usize, to: usize)
-    requires { (length board.old ≡ board_length) × (from ≤ to) × (to ≤ board_length) }
-    ensures { board.new ≡ tab board_length (zeroed_at board.old from to) }
-{
-    for p in from..to {
-        board[p] = 0;
-    }
-}
 
 // In October marks, water taken and short words are cleared. Storages, before them, and dues, in between, stay.
 fn clear_year(board: &mut [u64], october: bool)
@@ -24,8 +14,8 @@ fn clear_year(board: &mut [u64], october: bool)
     if !october {
         return;
     }
-    clear(board, MARKS, DUES);
-    clear(board, WORDS, BOARD_LENGTH);
+    board[MARKS..DUES].fill(0);
+    board[WORDS..BOARD_LENGTH].fill(0);
 }
 
 // The dues of n rows as one list, so that they move as one block. The last of a row takes the next row's first, until `clear_last`.
@@ -33,13 +23,13 @@ fn move_dues(board: &mut [u64], n: usize)
     requires { (length board.old ≡ board_length) × (n ≤ 64) }
     ensures { board.new ≡ tab board_length (moved_at board.old n) }
 {
-    let last = dues_of(n) - 1;
-    for p in DUES..last {
-        board[p] = board[p + 1];
+    if n > 0 {
+        board.copy_within(DUES + 1..dues_of(n), DUES);
     }
 }
 
-// The last due of each row is 0.
+// The last due of each row is 0. The rows are counted, since it is a place of theirs that is written: rows as parts of the board would need a
+// number for that place within a part, which the list of places does not have.
 fn clear_last(board: &mut [u64], n: usize)
     requires { (length board.old ≡ board_length) × (n ≤ 64) }
     ensures { board.new ≡ tab board_length (ended_at board.old n) }
@@ -49,7 +39,7 @@ fn clear_last(board: &mut [u64], n: usize)
     }
 }
 
-// Three plain loops, since one that asks at each place what is kept there costs a small basin more than its rights; and over the basin's own
+// Three plain steps, since one loop that asks at each place what is kept there costs a small basin more than its rights; and over the basin's own
 // n rows, since a possible board has nothing due at any other, and moving those zeros too cost a small basin a quarter of its month.
 pub fn open_board(board: &mut [u64], october: bool, n: usize)
     requires { CanOpen n board.old }

@@ -85,16 +85,9 @@ module _ (pattern sums : List ℕ) (s : Sums pattern sums) where
     unfolding deep_loss
     deep-left k e = rw (e ∙ last_sum)
 
--- where a sum is not the last there is a next
-pub not_last : (sums : List ℕ) (whole k : ℕ) → whole ≡ get_or sums 11 0 → k ≤ 11 → (get_or sums k 0 ≡ whole → ⊥) → k < 11
-not_last sums whole k last m ne = by_eqb k 11 (λ _. k < 11) (λ e. absurd (ne (ap (λ (j : ℕ). get_or sums j 0) e ∙ sym last))) (λ e. omega arith)
-
 -- ---- one turn of the loop
 
 module _ (pattern : List ℕ) (a at : ℕ) (l : List ℕ) where
-  pub lagged-none : Lagged pattern a at 0 l l
-  lagged-none = record { size = refl; each = λ j h. absurd (omega arith); under = λ j h. refl; over = λ j h. refl }
-
   -- a place has grown by at most the amount
   pub lagged-le : (k : ℕ) (l' : List ℕ) → sum pattern ≤ 100 → Lagged pattern a at k l l' → (j : ℕ) → get_or l' j 0 ≤ get_or l j 0 + a
   lagged-le k l' e w j = low (dec_lt j at)

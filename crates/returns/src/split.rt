@@ -4,7 +4,6 @@ ghost use Rattle.rules.specs.Accepted.{most_amount};
 ghost use Rattle.places.specs.Board.{dues_of};
 ghost use Rattle.returns.specs.Dues.{Sums, CanSplit, SplitUp};
 
-use numbers::wide8;
 use places::board::dues_of;
 
 // What of an amount is in the river at once, and what goes deep.
@@ -33,14 +32,15 @@ pub fn split_months(sums: &[u8; 12], a: u64, at: usize, dues: &mut [u64]) -> Spl
     ensures { (pattern : List ℕ) → Sums pattern sums.now → SplitUp pattern a at dues.old dues.new result }
 {
     let whole = sums[11];
-    let at_once = percent_of(a, wide8(sums[0]));
+    let at_once = percent_of(a, u64::from(sums[0]));
     let mut before = at_once;
-    let mut k = 0;
-    while sums[k] != whole {
-        let next = percent_of(a, wide8(sums[k + 1]));
+    for k in 0..11 {
+        if sums[k] == whole {
+            break;
+        }
+        let next = percent_of(a, u64::from(sums[k + 1]));
         dues[at + k] += next - before;
         before = next;
-        k += 1;
     }
     SplitPart {
         at_once,

@@ -16,7 +16,7 @@ use Rattle.general.proofs.Tables.{tab-length, tab-at}
 use Rattle.general.proofs.Tests.{absurd-bool, by_eqb}
 use Rattle.rules.specs.River.{Level, dry, level_at, along, diverted, reserved, released, returned}
 use Rattle.rules.proofs.River.{along-at, along-length}
-use Rattle.river.specs.Arrays.{level, row_level, levels_of, Enough, Room}
+use Rattle.river.specs.Arrays.{level, row_level, levels_of, Room}
 
 pub levels-length : (n : ℕ) (f a : List ℕ) → length (levels_of n f a) ≡ n
 unfolding levels_of
@@ -114,14 +114,7 @@ pub released-zero : (x : Level) → released 0 x ≡ x
 unfolding released
 released-zero x = λ i. record { flow = more-zero x.flow i; available = x.available }
 
--- ---- a store to both arrays, and to one
-
-module _ (f a : List ℕ) (i x y : ℕ) (hf : i < length f) (ha : i < length a) where
-  pub set_here : row_level (set f i x) (set a i y) i ≡ level x y
-  set_here = rw (get_or-set_same f i x 0 hf, get_or-set_same a i y 0 ha)
-
-  pub set_other : (w : ℕ) → w ≢ i → row_level (set f i x) (set a i y) w ≡ row_level f a w
-  set_other w z = rw (get_or-set_other f i w x 0 z, get_or-set_other a i w y 0 z)
+-- ---- a store to one array
 
 module _ (f a : List ℕ) (i x : ℕ) where
   pub flow-here : i < length f → row_level (set f i x) a i ≡ level x (get_or a i 0)
@@ -141,9 +134,6 @@ module _ (f a : List ℕ) (i x : ℕ) where
 module _ (d i x : ℕ) (p l : List ℕ) (ne : has i p ≡ false) where
   not-here : (k : ℕ) → has k p ≡ true → k ≢ i
   not-here k e z = absurd-bool e (rw z ne)
-
-  pub enough-on : Enough d (i ∷ p) l → Enough d p (set l i x)
-  enough-on h = record { at_least = λ k e. rw (get_or-set_other l i k x 0 (not-here k e)) (h.at_least k (has-tail k i p e)) }
 
   pub room-on : Room d (i ∷ p) l → Room d p (set l i x)
   room-on h = record { fits = λ k e. rw (get_or-set_other l i k x 0 (not-here k e)) (h.fits k (has-tail k i p e)) }

@@ -3,14 +3,15 @@ use Rattle.std.specs.Prelude.{None, Option, Some}
 use mathlib.Core.Bool.{Bool, true, false, cond}
 use mathlib.Core.List.{List, [], ◌∷◌}
 use mathlib.Core.Logic.{◌≢◌}
-use mathlib.Core.Path.{◌≡◌, refl, sym, ap, ◌∙◌}
-use Prim.Native.Nat.{ℕ, ◌+◌, ◌-◌, ◌<◌, ◌≤◌}
+use mathlib.Core.Path.{◌≡◌, refl, sym, ◌∙◌}
+use Prim.Native.Nat.{ℕ, ◌+◌, ◌-◌, ◌<◌}
 use native.Mathlib.Omega.{arith}
 use lib.Dec.{ltb}
 use lib.ListN.{length, get_or, set, length-set}
+use lib.Seq.{get_or-set_same, get_or-set_other}
 use Rattle.general.specs.Tests.{has}
-use Rattle.general.proofs.Search.{has-head, has_other, has-none}
-use Rattle.general.proofs.Tests.{absurd-bool, by_eqb, ltb_yes, ltb_no}
+use Rattle.general.proofs.Search.{has-head, has-tail, has_other, has-none}
+use Rattle.general.proofs.Tests.{absurd-bool, by_eqb}
 use Rattle.rules.specs.Path.{until_row}
 use Rattle.rules.specs.River.{Level, diverted, released, returned}
 use Rattle.rules.proofs.Path.{until_none, until_stop, until-on}
@@ -19,16 +20,13 @@ use Rattle.records.proofs.Table as table
 use Rattle.records.proofs.Table.{by_end, by-self}
 use Rattle.river.specs.declared.Seen.{Seen}
 use Rattle.river.specs.declared.Seen.TheVariants.{Called, Low}
-use Rattle.river.specs.Arrays.{row_level, seen_as, seen_on, Enough, Room, CanDivert, CanReturn, CanRelease, CanLook, Walked, Raised}
+use Rattle.river.specs.Arrays.{level, row_level, seen_on, Enough, Room, CanRelease, CanLook, CanWalk, Changed, Walked, Raised}
 use Rattle.river.proofs.Table.{by-off}
-use Rattle.river.proofs.Levels.{walk-on, walk-done, change-nothing, diverted-level, returned-level, released-level, set_here, set_other, flow-here, flow-other, enough-on, room-on}
+use Rattle.river.proofs.Levels.{change-made, walk-on, walk-done, change-nothing, diverted-level, returned-level, released-level, flow-here, flow-other, room-on}
 
 -- ---- what holds at the row itself
 
 module _ (t : List ℕ) (i : ℕ) (o : OnTable t i) where
-  pub enough-self : (d : ℕ) (l : List ℕ) → Enough d (path_by t i) l → d ≤ get_or l i 0
-  enough-self d l e = e.at_least i (by-self t o.downhill i o.on)
-
   pub room-self : (d : ℕ) (l : List ℕ) → Room d (path_by t i) l → get_or l i 0 + d < 18446744073709551616
   room-self d l e = e.fits i (by-self t o.downhill i o.on)
 
@@ -36,37 +34,88 @@ module _ (t : List ℕ) (i : ℕ) (o : OnTable t i) where
   by_row : (q : ℕ) → step_of t i ≡ Some q → (path_by t i ≡ i ∷ path_by t q) × (has i (path_by t q) ≡ false)
   by_row q b = let w = table.by_row t o.downhill i q o.on b in (w.0, by-off t o.downhill i q w.2 w.1)
 
+-- ---- a walk that changes flow and available flow at each row: x and y are what the change made at row i
+
+module _ {can : ℕ → Type 0} {t : List ℕ} {i : ℕ} {f a : List ℕ} (o : CanWalk can t i f a) where
+  pub can-flow : can (get_or f i 0)
+  can-flow = o.flows i (by-self t o.row-ok.downhill i o.row-ok.on)
+
+  pub can-available : can (get_or a i 0)
+  can-available = o.availables i (by-self t o.row-ok.downhill i o.row-ok.on)
+
+  module _ (x y q : ℕ) (b : step_of t i ≡ Some q) where
+    -- a row further down is not this one
+    further : (k : ℕ) → has k (path_by t q) ≡ true → (k ≢ i) × (has k (path_by t i) ≡ true)
+    further k h = let w = by_row t i o.row-ok q b in (λ z. absurd-bool h (rw z w.1), rw w.0 (has-tail k i (path_by t q) h))
+
+    pub next-walk : CanWalk can t q (set f i x) (set a i y)
+    next-walk = record {
+      row-ok = (table.walk-on t i q o.row-ok q b).1;
+      places = rw (length-set f i x) o.places;
+      places₂ = rw (length-set a i y) o.places₂;
+      flows = λ k h. let w = further k h in rw (get_or-set_other f i k x 0 w.0) (o.flows k w.1);
+      availables = λ k h. let w = further k h in rw (get_or-set_other a i k y 0 w.0) (o.availables k w.1);
+    }
+
+  module _ (made : ℕ → ℕ → Type 0) (x y : ℕ) (mx : made (get_or f i 0) x) (my : made (get_or a i 0) y) where
+    -- of one list: the row itself, then what the rest of the walk does to the rest of the path
+    list-on : (l l' p : List ℕ) (z : ℕ) → i < length l → made (get_or l i 0) z → has i p ≡ false
+        → ((k : ℕ) → has k p ≡ true → made (get_or (set l i z) k 0) (get_or l' k 0)) → ((k : ℕ) → has k p ≡ false → get_or l' k 0 ≡ get_or (set l i z) k 0)
+        → (k : ℕ) → has k (i ∷ p) ≡ true → made (get_or l k 0) (get_or l' k 0)
+    list-on l l' p z h m off on same k e = by_eqb k i (λ _. made (get_or l k 0) (get_or l' k 0))
+        (λ u. rw (u, same i off, get_or-set_same l i z 0 h) m)
+        (λ u. let v = on k (sym (has_other k i p u) ∙ e) in rw (get_or-set_other l i k z 0 u) at v)
+
+    list-off : (l l' p : List ℕ) (z : ℕ) → ((k : ℕ) → has k p ≡ false → get_or l' k 0 ≡ get_or (set l i z) k 0) → (k : ℕ) → has k (i ∷ p) ≡ false → get_or l' k 0 ≡ get_or l k 0
+    list-off l l' p z same k e = by_eqb k i (λ _. get_or l' k 0 ≡ get_or l k 0)
+        (λ u. absurd-bool (has-head k i p u) e)
+        (λ u. same k (sym (has_other k i p u) ∙ e) ∙ get_or-set_other l i k z 0 u)
+
+    changed-on : (p f' a' : List ℕ) → has i p ≡ false → Changed made p (set f i x) (set a i y) f' a' → Changed made (i ∷ p) f a f' a'
+    changed-on p f' a' off w = record {
+      flow_on = list-on f f' p x (omega (arith, o.row-ok.on, o.places)) mx off w.flow_on w.flow_off;
+      available_on = list-on a a' p y (omega (arith, o.row-ok.on, o.places₂)) my off w.available_on w.available_off;
+      flow_off = list-off f f' p x w.flow_off;
+      available_off = list-off a a' p y w.available_off;
+      flow_size = w.flow_size ∙ length-set f i x;
+      available_size = w.available_size ∙ length-set a i y;
+    }
+
+    pub changed-row : (q : ℕ) (f' a' : List ℕ) → step_of t i ≡ Some q → Changed made (path_by t q) (set f i x) (set a i y) f' a' → Changed made (path_by t i) f a f' a'
+    changed-row q f' a' b w = let r = by_row t i o.row-ok q b in rw r.0 (changed-on (path_by t q) f' a' r.1 w)
+
+    pub changed-end : step_of t i ≡ None → Changed made (path_by t i) f a (set f i x) (set a i y)
+    changed-end b = rw (by_end t o.row-ok.downhill i o.row-ok.on b) (changed-on [] _ _ (has-none i) (record {
+      flow_on = λ k h. absurd-bool h (has-none k);
+      available_on = λ k h. absurd-bool h (has-none k);
+      flow_off = λ k h. refl;
+      available_off = λ k h. refl;
+      flow_size = refl;
+      available_size = refl;
+    }))
+
+-- the levels after a walk whose change takes or adds d
+module _ {made : ℕ → ℕ → Type 0} {p f a f' a' : List ℕ} (w : Changed made p f a f' a') where
+  walked-by : (g : Level → Level) → ((k x y : ℕ) → has k p ≡ true → made (get_or f k 0) x → made (get_or a k 0) y → level x y ≡ g (row_level f a k)) → Walked g p f a f' a'
+  walked-by g make = record {
+    levels = λ n. change-made n g p f a f' a' (λ k h. at k (has k p) refl);
+    flow_size = w.flow_size;
+    available_size = w.available_size;
+  }
+    where
+      at : (k : ℕ) (b : Bool) → has k p ≡ b → row_level f' a' k ≡ cond b (g (row_level f a k)) (row_level f a k)
+      at k true e = make k _ _ e (w.flow_on k e) (w.available_on k e)
+      at k false e = rw (w.flow_off k e, w.available_off k e)
+
+  pub walked-diverted : (d : ℕ) → ((x y : ℕ) → made x y → y ≡ x - d) → Enough d p f → Enough d p a → Walked (diverted d) p f a f' a'
+  walked-diverted d by ef ea = walked-by (diverted d) (λ k x y e mx my. rw (by _ x mx, by _ y my) (diverted-level _ _ d (ef.at_least k e) (ea.at_least k e)))
+
+  pub walked-returned : (d : ℕ) → ((x y : ℕ) → made x y → y ≡ x + d) → Walked (returned d) p f a f' a'
+  walked-returned d by = walked-by (returned d) (λ k x y e mx my. rw (by _ x mx, by _ y my) (returned-level _ _ d))
+
 -- ---- what passes on to the row below
 
-module _ (t : List ℕ) (i q : ℕ) (b : step_of t i ≡ Some q) (d x y : ℕ) (f a : List ℕ) where
-  pub next-divert : CanDivert t i d f a → CanDivert t q d (set f i x) (set a i y)
-  next-divert o =
-      let w = by_row t i o.row-ok q b in
-      let p = w.0 in
-      let m = o.flows in
-      let k = o.availables in
-      record {
-        row-ok = (table.walk-on t i q o.row-ok q b).1;
-        places = rw (length-set f i x) o.places;
-        places₂ = rw (length-set a i y) o.places₂;
-        flows = enough-on d i x (path_by t q) f w.1 (rw p at m);
-        availables = enough-on d i y (path_by t q) a w.1 (rw p at k);
-      }
-
-  pub next-return : CanReturn t i d f a → CanReturn t q d (set f i x) (set a i y)
-  next-return o =
-      let w = by_row t i o.row-ok q b in
-      let p = w.0 in
-      let m = o.flows in
-      let k = o.availables in
-      record {
-        row-ok = (table.walk-on t i q o.row-ok q b).1;
-        places = rw (length-set f i x) o.places;
-        places₂ = rw (length-set a i y) o.places₂;
-        flows = room-on d i x (path_by t q) f w.1 (rw p at m);
-        availables = room-on d i y (path_by t q) a w.1 (rw p at k);
-      }
-
+module _ (t : List ℕ) (i q : ℕ) (b : step_of t i ≡ Some q) (d x : ℕ) (f : List ℕ) where
   pub next-release : CanRelease t i d f → CanRelease t q d (set f i x)
   next-release o =
       let w = by_row t i o.row-ok q b in
@@ -77,57 +126,6 @@ module _ (t : List ℕ) (i q : ℕ) (b : step_of t i ≡ Some q) (d x y : ℕ) (
         places = rw (length-set f i x) o.places;
         flows = room-on d i x (path_by t q) f w.1 (rw p at m);
       }
-
--- ---- a walk that stores to both arrays: x and y at row i are what g makes of the level there
-
-module _ (t : List ℕ) (i x y : ℕ) (g : Level → Level) (f a : List ℕ) (o : OnTable t i) (hf : 64 ≤ length f) (ha : 64 ≤ length a)
-    (here : row_level (set f i x) (set a i y) i ≡ g (row_level f a i)) where
-  other : (w : ℕ) → w ≢ i → row_level (set f i x) (set a i y) w ≡ row_level f a w
-  other = set_other f a i x y (omega (arith, o.on)) (omega (arith, o.on))
-
-  pub both-row : (q : ℕ) (f' a' : List ℕ) → step_of t i ≡ Some q → Walked g (path_by t q) (set f i x) (set a i y) f' a' → Walked g (path_by t i) f a f' a'
-  both-row q f' a' b e =
-      let w = by_row t i o q b in
-      record {
-        levels = λ n. rw w.0 (walk-on n i g f a _ _ here other (path_by t q) f' a' w.1 (e.levels n));
-        flow_size = e.flow_size ∙ length-set f i x;
-        available_size = e.available_size ∙ length-set a i y;
-      }
-
-  pub both_end : step_of t i ≡ None → Walked g (path_by t i) f a (set f i x) (set a i y)
-  both_end b = record {
-    levels = λ n. rw (by_end t o.downhill i o.on b) (walk-done n i g f a _ _ here other);
-    flow_size = length-set f i x;
-    available_size = length-set a i y;
-  }
-
--- ---- divert
-
-module _ (t : List ℕ) (i d : ℕ) (f a : List ℕ) (o : CanDivert t i d f a) where
-  diverted-here : row_level (set f i (get_or f i 0 - d)) (set a i (get_or a i 0 - d)) i ≡ diverted d (row_level f a i)
-  diverted-here =
-      set_here f a i _ _ (omega (arith, o.row-ok.on, o.places)) (omega (arith, o.row-ok.on, o.places₂))
-      ∙ diverted-level (get_or f i 0) (get_or a i 0) d (enough-self t i o.row-ok d f o.flows) (enough-self t i o.row-ok d a o.availables)
-
-  pub divert-row : (q : ℕ) (f' a' : List ℕ) → step_of t i ≡ Some q → Walked (diverted d) (path_by t q) (set f i (get_or f i 0 - d)) (set a i (get_or a i 0 - d)) f' a' → Walked (diverted d) (path_by t i) f a f' a'
-  divert-row = both-row t i _ _ (diverted d) f a o.row-ok o.places o.places₂ diverted-here
-
-  pub divert-end : step_of t i ≡ None → Walked (diverted d) (path_by t i) f a (set f i (get_or f i 0 - d)) (set a i (get_or a i 0 - d))
-  divert-end = both_end t i _ _ (diverted d) f a o.row-ok o.places o.places₂ diverted-here
-
--- ---- put back
-
-module _ (t : List ℕ) (i d : ℕ) (f a : List ℕ) (o : CanReturn t i d f a) where
-  returned-here : row_level (set f i (get_or f i 0 + d)) (set a i (get_or a i 0 + d)) i ≡ returned d (row_level f a i)
-  returned-here =
-      set_here f a i _ _ (omega (arith, o.row-ok.on, o.places)) (omega (arith, o.row-ok.on, o.places₂))
-      ∙ returned-level (get_or f i 0) (get_or a i 0) d
-
-  pub return-row : (q : ℕ) (f' a' : List ℕ) → step_of t i ≡ Some q → Walked (returned d) (path_by t q) (set f i (get_or f i 0 + d)) (set a i (get_or a i 0 + d)) f' a' → Walked (returned d) (path_by t i) f a f' a'
-  return-row = both-row t i _ _ (returned d) f a o.row-ok o.places o.places₂ returned-here
-
-  pub return-end : step_of t i ≡ None → Walked (returned d) (path_by t i) f a (set f i (get_or f i 0 + d)) (set a i (get_or a i 0 + d))
-  return-end = both_end t i _ _ (returned d) f a o.row-ok o.places o.places₂ returned-here
 
 -- ---- release
 
@@ -169,20 +167,10 @@ module _ (t : List ℕ) (i d stop : ℕ) (f : List ℕ) (o : CanRelease t i d f)
 
 -- ---- look
 
-pub seen_low : (c : ℕ) → c < 64 → Low c ≡ seen_as c
-unfolding seen_as
-seen_low c h = rw (ltb_yes c 64 h)
-
-pub seen-called : (c : ℕ) → 64 ≤ c → Called (c - 64) ≡ seen_as c
-unfolding seen_as
-seen-called c h = rw (ltb_no c 64 h)
-
 module _ (t : List ℕ) (i low : ℕ) (short : List Bool) (a : List ℕ) (o : CanLook t i low) where
-  pub look-called : get_or short i false ≡ true → seen_as (64 + i) ≡ seen_on short a low (path_by t i)
+  pub look-called : get_or short i false ≡ true → Called i ≡ seen_on short a low (path_by t i)
   unfolding seen_on
-  look-called e =
-      let z : 64 + i - 64 ≡ i = omega arith in
-      sym (seen-called (64 + i) (omega arith)) ∙ ap (λ (x : ℕ). Called x) z ∙ go ((step_of t i)) refl
+  look-called e = go (step_of t i) refl
     where
       go : (x : Option ℕ) → step_of t i ≡ x → Called i ≡ seen_on short a low (path_by t i)
       go (Some q) b = rw ((by_row t i o.row-ok q b).0, e)
@@ -196,9 +184,9 @@ module _ (t : List ℕ) (i low : ℕ) (short : List Bool) (a : List ℕ) (o : Ca
         go true = o.row-ok.on
         go false = o.low_on
 
-    pub look-end : step_of t i ≡ None → seen_as r ≡ seen_on short a low (path_by t i)
+    pub look-end : step_of t i ≡ None → Low r ≡ seen_on short a low (path_by t i)
     unfolding seen_on
-    look-end b = sym (seen_low r lower_in) ∙ rw (by_end t o.row-ok.downhill i o.row-ok.on b, open_row, ← e)
+    look-end b = rw (by_end t o.row-ok.downhill i o.row-ok.on b, open_row, ← e)
 
     pub look-on : (q : ℕ) (x : Seen) → step_of t i ≡ Some q → x ≡ seen_on short a r (path_by t q) → x ≡ seen_on short a low (path_by t i)
     unfolding seen_on

@@ -1,5 +1,5 @@
 -- The arrays of a month as the rules' levels, what each walk along a path asks for, and what it leaves.
-use Rattle.std.specs.Prelude.{Bool, true, false, cond, List, [], ◌∷◌, ◌≡◌, ℕ, ◌+◌, ◌-◌, ◌≤◌, ◌<◌, ltb, length, get_or, pos}
+use Rattle.std.specs.Prelude.{Bool, true, false, cond, List, [], ◌∷◌, ◌≡◌, ℕ, ◌+◌, ◌≤◌, ◌<◌, ltb, length, get_or, pos}
 use Rattle.general.specs.Tables.{tab}
 use Rattle.general.specs.Tests.{has}
 use Rattle.rules.specs.River.{Level, along}
@@ -25,10 +25,6 @@ unfoldable pub seen_on : List Bool → List ℕ → ℕ → List ℕ → Seen
 seen_on short a low [] = Low low
 seen_on short a low (q ∷ p) = cond (get_or short q false) (Called q) (seen_on short a (cond (ltb (get_or a q 0) (get_or a low 0)) q low) p)
 
--- the number that tells it: a row by itself, the row of a short right with 64 added
-unfoldable pub seen_as : ℕ → Seen
-seen_as c = cond (ltb c 64) (Low c) (Called (c - 64))
-
 -- ---- what a walk asks for
 
 -- at each row of p there is at least d
@@ -46,6 +42,14 @@ pub record RiverOk (t f a : List ℕ) (most : ℕ) : Type 0 where
   pub places₂ : 64 ≤ length a
   pub room : (w : ℕ) → w < 64 → get_or f w 0 ≤ most
   pub within : (w : ℕ) → w < 64 → get_or a w 0 ≤ get_or f w 0
+
+-- a change may be made of the flow and of the available flow at each row of the path
+pub record CanWalk (can : ℕ → Type 0) (t : List ℕ) (row : ℕ) (f a : List ℕ) : Type 0 where
+  pub row-ok : OnTable t row
+  pub places : 64 ≤ length f
+  pub places₂ : 64 ≤ length a
+  pub flows : (k : ℕ) → has k (path_by t row) ≡ true → can (get_or f k 0)
+  pub availables : (k : ℕ) → has k (path_by t row) ≡ true → can (get_or a k 0)
 
 pub record CanDivert (t : List ℕ) (row d : ℕ) (f a : List ℕ) : Type 0 where
   pub row-ok : OnTable t row
@@ -71,6 +75,15 @@ pub record CanLook (t : List ℕ) (row low : ℕ) : Type 0 where
   pub low_on : low < 64
 
 -- ---- what a walk leaves: f, a before and f', a' after
+
+-- at each row of p the flow and the available flow are what the change makes of them, and at no other row anything changes
+pub record Changed (made : ℕ → ℕ → Type 0) (p f a f' a' : List ℕ) : Type 0 where
+  pub flow_on : (k : ℕ) → has k p ≡ true → made (get_or f k 0) (get_or f' k 0)
+  pub available_on : (k : ℕ) → has k p ≡ true → made (get_or a k 0) (get_or a' k 0)
+  pub flow_off : (k : ℕ) → has k p ≡ false → get_or f' k 0 ≡ get_or f k 0
+  pub available_off : (k : ℕ) → has k p ≡ false → get_or a' k 0 ≡ get_or a k 0
+  pub flow_size : length f' ≡ length f
+  pub available_size : length a' ≡ length a
 
 -- g is done to the level of each row of p and to no other, however many rows are asked after
 pub record Walked (g : Level → Level) (p f a f' a' : List ℕ) : Type 0 where

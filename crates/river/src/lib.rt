@@ -6,7 +6,7 @@ ghost use Rattle.std.specs.Prelude.{◌≡◌, cond, ltb, ◌<◌, get_or};
 ghost use Rattle.rules.specs.Path.{until_row};
 ghost use Rattle.rules.specs.River.{diverted, released, returned};
 ghost use Rattle.records.specs.Table.{path_by};
-ghost use Rattle.river.specs.Arrays.{seen_as, seen_on, CanDivert, CanReturn, CanRelease, CanLook, Walked, Raised};
+ghost use Rattle.river.specs.Arrays.{seen_on, CanDivert, CanReturn, CanRelease, CanLook, CanWalk, Changed, Walked, Raised};
 
 use records::network::next_row;
 
@@ -17,97 +17,80 @@ pub enum Seen {
     Low(usize),
 }
 
-// d leaves flow and available flow all along the path.
-pub fn divert(below: &[u8; 64], flow: &mut [u64; 64], available: &mut [u64; 64], row: usize, d: u64)
-    requires { CanDivert below.now row d flow.old available.old }
-    ensures { Walked (diverted d) (path_by below.now row) flow.old available.old flow.new available.new }
-{
-    flow[row] = flow[row] - d;
-    available[row] = available[row] - d;
-    if let Some(next) = next_row(below, row) {
-        divert(below, flow, available, next, d);
-    }
+// Flow and available flow at each row.
+#[derive(Drop)]
+pub struct River {
+    pub flow: [u64; 64],
+    pub available: [u64; 64],
 }
 
-// d more in flow and available flow all along the path.
-pub fn put_back(
-    below: &[u8; 64],
-    flow: &mut [u64; 64],
-    available: &mut [u64; 64],
-    row: usize,
-    d: u64,
-)
-    requires { CanReturn below.now row d flow.old available.old }
-    ensures { Walked (returned d) (path_by below.now row) flow.old available.old flow.new available.new }
-{
-    flow[row] = flow[row] + d;
-    available[row] = available[row] + d;
-    if let Some(next) = next_row(below, row) {
-        put_back(below, flow, available, next, d);
+impl River {
+    // The same change of flow and available flow all along the path.
+    fn walk<F: Fn(u64) -> u64 + Copy>(&mut self, below: &[u8; 64], row: usize, change: F)
+        requires { CanWalk (F.pre change) below.now row self.old.flow self.old.available }
+        ensures { Changed (F.post change) (path_by below.now row) self.old.flow self.old.available self.new.flow self.new.available }
+    {
+        self.flow[row] = change(self.flow[row]);
+        self.available[row] = change(self.available[row]);
+        if let Some(next) = next_row(below, row) {
+            self.walk(below, next, change);
+        }
     }
-}
 
-// d more in flow along the path as far as just above the row `stop`.
-pub fn release(below: &[u8; 64], flow: &mut [u64; 64], row: usize, stop: usize, d: u64)
-    requires { CanRelease below.now row d flow.old }
-    ensures { Raised (released d) (until_row stop (path_by below.now row)) flow.old flow.new }
-{
-    if row == stop {
-        return;
+    // d leaves flow and available flow all along the path.
+    pub fn divert(&mut self, below: &[u8; 64], row: usize, d: u64)
+        requires { CanDivert below.now row d self.old.flow self.old.available }
+        ensures { Walked (diverted d) (path_by below.now row) self.old.flow self.old.available self.new.flow self.new.available }
+    {
+        self.walk(below, row, move |x| x - d);
     }
-    flow[row] = flow[row] + d;
-    if let Some(next) = next_row(below, row) {
-        release(below, flow, next, stop, d);
-    }
-}
 
-// The lower of two rows; the one already found where they are level.
-fn lower(available: &[u64; 64], row: usize, low: usize) -> usize
-    requires { (row < 64) × (low < 64) }
-    ensures { result ≡ cond (ltb (get_or available.now row 0) (get_or available.now low 0)) row low }
-{
-    if available[row] < available[low] {
-        row
-    } else {
-        low
+    // d more in flow and available flow all along the path.
+    pub fn put_back(&mut self, below: &[u8; 64], row: usize, d: u64)
+        requires { CanReturn below.now row d self.old.flow self.old.available }
+        ensures { Walked (returned d) (path_by below.now row) self.old.flow self.old.available self.new.flow self.new.available }
+    {
+        self.walk(below, row, move |x| x + d);
     }
-}
 
-// What `look` sees, as a number: a row with the lowest flow by itself, the row of a short right with 64 added. An answer that is one number stays in a register.
-fn look_down(
-    below: &[u8; 64],
-    short: &[bool; 64],
-    available: &[u64; 64],
-    row: usize,
-    low: usize,
-) -> usize
-    requires { CanLook below.now row low }
-    ensures { seen_as result ≡ seen_on short.now available.now low (path_by below.now row) }
-{
-    if short[row] {
-        return 64 + row;
+    // d more in flow along the path as far as just above the row `stop`.
+    pub fn release(&mut self, below: &[u8; 64], row: usize, stop: usize, d: u64)
+        requires { CanRelease below.now row d self.old.flow }
+        ensures { Raised (released d) (until_row stop (path_by below.now row)) self.old.flow self.new.flow × (self.new.available ≡ self.old.available) }
+    {
+        if row == stop {
+            return;
+        }
+        self.flow[row] = self.flow[row] + d;
+        if let Some(next) = next_row(below, row) {
+            self.release(below, next, stop, d);
+        }
     }
-    let lowest = lower(available, row, low);
-    let Some(next) = next_row(below, row) else {
-        return lowest;
-    };
-    look_down(below, short, available, next, lowest)
-}
 
-// The first row down the path at which a right is short; where there is none, the first row with the lowest available flow, `low` being the lowest so far.
-pub fn look(
-    below: &[u8; 64],
-    short: &[bool; 64],
-    available: &[u64; 64],
-    row: usize,
-    low: usize,
-) -> Seen
-    requires { CanLook below.now row low }
-    ensures { result ≡ seen_on short.now available.now low (path_by below.now row) }
-{
-    let seen = look_down(below, short, available, row, low);
-    if seen < 64 {
-        return Seen::Low(seen);
+    // The lower of two rows; the one already found where they are level.
+    fn lower(&self, row: usize, low: usize) -> usize
+        requires { (row < 64) × (low < 64) }
+        ensures { result ≡ cond (ltb (get_or self.now.available row 0) (get_or self.now.available low 0)) row low }
+    {
+        if self.available[row] < self.available[low] {
+            row
+        } else {
+            low
+        }
     }
-    Seen::Called(seen - 64)
+
+    // The first row down the path at which a right is short; where there is none, the first row with the lowest available flow, `low` being the lowest so far.
+    pub fn look(&self, below: &[u8; 64], short: &[bool; 64], row: usize, low: usize) -> Seen
+        requires { CanLook below.now row low }
+        ensures { result ≡ seen_on short.now self.now.available low (path_by below.now row) }
+    {
+        if short[row] {
+            return Seen::Called(row);
+        }
+        let lowest = self.lower(row, low);
+        let Some(next) = next_row(below, row) else {
+            return Seen::Low(lowest);
+        };
+        self.look(below, short, next, lowest)
+    }
 }

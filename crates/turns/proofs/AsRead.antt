@@ -14,12 +14,12 @@ use Rattle.grants.specs.Grants.{CanSee, RiverGave}
 use Rattle.grants.specs.Stages.{ask_in, CanTake, Taken, capacity_in, board_stored, CanFill, CanDraw, Drawn}
 use lib.ListN.{get_or}
 use Rattle.turns.specs.Finish.{CanFinish, Finished, short_reason}
-use Rattle.turns.specs.State.{Setting, Within, Ready}
+use Rattle.turns.specs.State.{SettingOf, Within, Ready}
 use Rattle.turns.proofs.Given.{RightAt, the_record, the_kind, the_row, the_reservoir, BeforeTurn, RiverGiven, AfterRiver, AfterStorage, AfterTurn, share_of}
 use Rattle.turns.proofs.Readying.{can-see, part-le, can-take, can-fill, can-draw, can-finish}
 
 -- two basins of one setting have the same capacities and limits
-pub within_same : {st t rs : List ℕ} {pa : List (List ℕ)} {ri : List ℕ} {b b' : Basin} → Setting b st t rs pa ri → Setting b' st t rs pa ri → (bd : List ℕ) → Within b bd → Within b' bd
+pub within_same : {st t rs : List ℕ} {pa : List (List ℕ)} {ri : List ℕ} {b b' : Basin} → SettingOf b st t rs pa ri → SettingOf b' st t rs pa ri → (bd : List ℕ) → Within b bd → Within b' bd
 within_same w w' bd h = record {
   storages = λ v l. subst (λ (x : List Reservoir). storage_at bd v ≤ (get_or x v no_reservoir).capacity) (w.reservoirs ∙ sym w'.reservoirs) (h.storages v (rw (w.reservoirs ∙ sym w'.reservoirs) l));
   taken = λ i l. subst (λ (x : List Right). taken_at bd i ≤ (get_or x i no_right).limit) (w.rights ∙ sym w'.rights) (h.taken i (rw (w.rights ∙ sym w'.rights) l));
@@ -28,7 +28,7 @@ within_same w w' bd h = record {
 -- ---- the turn that the code may begin, in any basin of the setting
 
 module _ {st t rs : List ℕ} {pa : List (List ℕ)} {ri : List ℕ} {i m : ℕ} {f a : List ℕ} {sh : List Bool} {bd : List ℕ} (o : Ready st t rs pa ri i m f a sh bd) where
-  abbrev pub turn_in : (b : Basin) → Setting b st t rs pa ri → BeforeTurn
+  abbrev pub turn_in : (b : Basin) → SettingOf b st t rs pa ri → BeforeTurn
   turn_in b w = record {
     right = record { basin = b; stations = st; table = t; reservoirs = rs; patterns = pa; rights = ri; setting = w; place = i; in_list = o.place };
     month = m;

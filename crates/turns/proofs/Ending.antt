@@ -2,37 +2,20 @@
 use mathlib.Core.Bool.{Bool, true}
 use mathlib.Core.List.{List, []}
 use mathlib.Core.Path.{◌≡◌, sym, ap, subst}
-use Prim.Native.Nat.{ℕ, ◌*◌, ◌/◌, ◌≤◌, ◌<◌}
-use native.Mathlib.Nat.{mul-le-mul, mul-le-mul_left}
+use Prim.Native.Nat.{ℕ, ◌≤◌, ◌<◌}
 use native.Mathlib.Omega.{arith}
 use lib.ListN.{get_or, set}
 use Rattle.general.proofs.Tests.{ltb_yes, ltb_no}
 use Rattle.records.specs.declared.rights.RightRecord.{RightRecord}
 use Rattle.grants.specs.declared.grants.Reason.TheVariants.{Met}
 use Rattle.returns.specs.Dues.{Sums}
-use Rattle.returns.specs.Returning.{PointsOk, CanGive, Gave, GaveBy}
+use Rattle.returns.specs.Returning.{Gave, GaveBy}
 use Rattle.turns.specs.declared.serve.Share.{Share}
 use Rattle.turns.specs.Finish.{rest_of, given, CanFinish, Finished}
 
 module _ {t : List ℕ} {pa : List (List ℕ)} {ri : List ℕ} {i : ℕ} {r : RightRecord} {x : Share} {f a : List ℕ} {sh : List Bool} {bd : List ℕ} (o : CanFinish t pa ri i r x f a sh bd) where
-  -- no more is consumed than diverted
-  pub rest-fits : {e : ℕ} → e ≡ r.efficiency → (given x * e < 18446744073709551616) × (given x * e / 100 ≤ given x)
-  rest-fits {e} ee =
-      let k : e ≤ 100 = omega (arith, o.efficient) in
-      let m : given x * e ≤ 1000000000 * 100 = mul-le-mul o.small k in
-      let n : given x * e ≤ given x * 100 = mul-le-mul_left (given x) k in
-      (omega arith, omega arith)
-
   -- the fields of the record as the code read them
   module _ {points which e : ℕ} (ep : points ≡ r.points) (ew : which ≡ r.pattern) (ee : e ≡ r.efficiency) where
-    pub can-give : CanGive t pa ri (record { right = i; points = points; pattern = which; amount = rest_of (given x) e }) f a bd
-    can-give = record {
-      points-ok = subst (λ (y : ℕ). PointsOk pa ri i y which) (sym ep) (subst (λ (y : ℕ). PointsOk pa ri i r.points y) (sym ew) o.points-ok);
-      small = omega (arith, o.small);
-      river = o.river;
-      board = o.board;
-    }
-
     module _ {f' a' bd' : List ℕ} {deep : ℕ} (g : GaveBy t (get_or pa which []) ri (record { right = i; points = points; pattern = which; amount = rest_of (given x) e }) f a bd f' a' bd' deep) where
       gave : (pattern : List ℕ) → (0 < r.points → Sums pattern (get_or pa r.pattern [])) → Gave t pattern ri i r.points (rest_of (given x) r.efficiency) f a bd f' a' bd' deep
       gave pattern o = subst (λ (y : ℕ). Gave t pattern ri i r.points (rest_of (given x) y) f a bd f' a' bd' deep) ee

@@ -20,7 +20,7 @@ use Rattle.river.specs.Arrays.{RiverOk}
 use Rattle.places.specs.Board.{BoardOk}
 use Rattle.turns.specs.declared.serve.Share.{Share}
 use Rattle.turns.specs.Finish.{Finished, short_reason}
-use Rattle.turns.specs.State.{state_of, Setting, Within}
+use Rattle.turns.specs.State.{state_of, SettingOf, Within}
 
 -- ---- the right
 
@@ -32,7 +32,7 @@ pub record RightAt : Type 0 where
   pub reservoirs : List ℕ
   pub patterns : List (List ℕ)
   pub rights : List ℕ
-  pub setting : Setting basin stations table reservoirs patterns rights
+  pub setting : SettingOf basin stations table reservoirs patterns rights
   pub place : ℕ
   pub in_list : place < right_count rights
 

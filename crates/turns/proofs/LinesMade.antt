@@ -12,7 +12,7 @@ use Rattle.places.specs.Report.{from_river_place, from_storage_place, reason_pla
 use Rattle.rules.specs.Turn.{Turn}
 use Rattle.rules.specs.Month.{reason_number, grant_at}
 use Rattle.grants.specs.declared.grants.Grant as program
-use Rattle.turns.specs.State.{why_of}
+use Rattle.grants.specs.Grants.{why_of}
 use Rattle.turns.specs.Lines.{line_of, LinesTo}
 
 -- ---- four numbers of a line

@@ -2,9 +2,9 @@
 use mathlib.Core.Bool.{Bool}
 use mathlib.Core.List.{List, [], ◌∷◌}
 use mathlib.Core.Path.{◌≡◌, refl, sym, ap, ◌∙◌, subst}
-use Prim.Native.Nat.{ℕ, suc, ◌+◌, ◌≤◌, ◌<◌}
+use Prim.Native.Nat.{ℕ, suc, ◌+◌, ◌<◌}
 use native.Mathlib.Omega.{arith}
-use lib.ListN.{length, get_or, drop}
+use lib.ListN.{length, drop}
 use Rattle.general.specs.Sums.{sum_over}
 use Rattle.general.proofs.Lists.{get_d-map-in, drop_at, drop-next, drop_head, drop_all}
 use Rattle.places.specs.Report.{station_place}
@@ -15,45 +15,18 @@ use Rattle.rules.specs.Month.{turns, after_turns, returned_by, returns_at, deep_
 use Rattle.rules.proofs.Bounds.{StateCapped, turn-capped}
 use Rattle.rules.proofs.Months.{turns-length}
 use Rattle.records.specs.Records.{right_count, right_of}
-use Rattle.turns.specs.State.{state_of, Setting, Within, named_by, home_of}
+use Rattle.turns.specs.State.{state_of, SettingOf, named_by, home_of}
 use Rattle.turns.specs.Lines.{CanLine, LineServed, LinesTo, turns_from, CanServe, ServedTo, Served}
-use Rattle.turns.proofs.Keeping.{kept-none, kept_on}
+use Rattle.turns.proofs.Keeping.{kept_on}
 use Rattle.turns.proofs.Facts.{rights-count, right_is}
 use Rattle.turns.proofs.Capped.{within-capped, capped-within}
 use Rattle.turns.proofs.LinesMade.{lines_more}
 
 -- ---- no right
 
-pub served-none : {b : Basin} {m : ℕ} {f a : List ℕ} {sh : List Bool} {bd rp : List ℕ} → Within b bd → ((u : ℕ) → u < 64 → get_or a u 0 ≤ get_or f u 0) → ServedTo b m 0 f a sh bd rp f a sh bd rp 0
-served-none {b} {m} {f} {a} {sh} {bd} {rp} h u = record {
-  left = refl;
-  state = refl;
-  dues = λ q j o. refl;
-  lost = omega arith;
-  month = refl;
-  lines = record {
-    from-river = λ j o. absurd (omega (arith, o));
-    from-storage = λ j o. absurd (omega (arith, o));
-    reason = λ j o. absurd (omega (arith, o));
-    station = λ j o. absurd (omega (arith, o));
-    beyond = λ p o. refl;
-    size = refl;
-  };
-  size = refl;
-  flow_size = refl;
-  available_size = refl;
-  short_size = refl;
-  within = u;
-  grown = λ q o. omega arith;
-  filled = λ j. omega arith;
-  lost_most = omega arith;
-  capped = h;
-  kept = kept-none b bd;
-}
-
 -- ---- one right more
 
-module _ {b : Basin} {st t rs : List ℕ} {pa : List (List ℕ)} {ri : List ℕ} (w : Setting b st t rs pa ri) {m k : ℕ} (hk : k < right_count ri)
+module _ {b : Basin} {st t rs : List ℕ} {pa : List (List ℕ)} {ri : List ℕ} (w : SettingOf b st t rs pa ri) {m k : ℕ} (hk : k < right_count ri)
     {f a : List ℕ} {sh : List Bool} {bd rp f' a' : List ℕ} {sh' : List Bool} {bd' rp' : List ℕ} {c : ℕ} (p : ServedTo b m k f a sh bd rp f' a' sh' bd' rp' c) (room : station_place k < length rp')
     {f'' a'' : List ℕ} {sh'' : List Bool} {bd'' rp'' : List ℕ} {d : ℕ} (q : LineServed b ri k m f' a' sh' bd' rp' f'' a'' sh'' bd'' rp'' d) where
   abbrev all : List Turn
@@ -159,7 +132,7 @@ line-ready {ri = ri} can {k} hk p =
 
 -- ---- all rights
 
-pub served-all : {b : Basin} {st t rs : List ℕ} {pa : List (List ℕ)} {ri : List ℕ} (w : Setting b st t rs pa ri) {m k : ℕ} {f a : List ℕ} {sh : List Bool} {bd rp f' a' : List ℕ} {sh' : List Bool} {bd' rp' : List ℕ} {c : ℕ} → ServedTo b m k f a sh bd rp f' a' sh' bd' rp' c → k ≡ right_count ri → Served b m f a sh bd rp f' a' sh' bd' rp' c
+pub served-all : {b : Basin} {st t rs : List ℕ} {pa : List (List ℕ)} {ri : List ℕ} (w : SettingOf b st t rs pa ri) {m k : ℕ} {f a : List ℕ} {sh : List Bool} {bd rp f' a' : List ℕ} {sh' : List Bool} {bd' rp' : List ℕ} {c : ℕ} → ServedTo b m k f a sh bd rp f' a' sh' bd' rp' c → k ≡ right_count ri → Served b m f a sh bd rp f' a' sh' bd' rp' c
 unfolding turns after_turns returns_at deep_of sum_over
 served-all {b} w {m} {k} {f} {a} {sh} {bd} {rp} {f'} {a'} {sh'} {bd'} {rp'} p e =
     let none : drop k b.rights ≡ [] = drop_all b.rights k (omega (arith, e, rights-count w)) in

@@ -15,7 +15,8 @@ use Rattle.grants.specs.declared.grants.Reason.{Reason as ReasonMade}
 use Rattle.grants.specs.declared.grants.Reason.TheVariants.{Met, Called, RiverLow, StorageOut}
 use Rattle.grants.specs.declared.grants.Grant.{Grant as GrantMade}
 use Rattle.grants.specs.Stages.{home_row}
-use Rattle.turns.specs.State.{why_of, named_by, home_of, Tells}
+use Rattle.grants.specs.Grants.{why_of}
+use Rattle.turns.specs.State.{named_by, home_of, Tells}
 use Rattle.turns.specs.Lines.{reservoir_station, CanName}
 use Rattle.turns.proofs.Given.{RightAt, the_reservoir, the_right}
 use Rattle.turns.proofs.Facts.{rows-st, reservoirs-count, home-is, home-in}

@@ -26,7 +26,8 @@ use Rattle.grants.specs.declared.grants.RiverPart.{RiverPart}
 use Rattle.grants.specs.Grants as grants
 use Rattle.grants.specs.Grants.{seen_by, RiverGave}
 use Rattle.turns.specs.Finish.{short_reason}
-use Rattle.turns.specs.State.{state_of, why_of, named_by, home_of, Tells}
+use Rattle.grants.specs.Grants.{why_of}
+use Rattle.turns.specs.State.{state_of, named_by, home_of, Tells}
 use Rattle.turns.proofs.Given.{RightAt, the_kind, the_row, the_path, the_right, BeforeTurn, the_state}
 use Rattle.turns.proofs.Facts.{path-in}
 use Rattle.turns.proofs.RightFacts.{kind-is, row_is, row_in}

@@ -11,7 +11,8 @@ use Rattle.grants.specs.declared.grants.Reason.{Reason}
 use Rattle.rules.specs.Accepted.{most_amount}
 use Rattle.river.specs.Arrays.{RiverOk}
 use Rattle.grants.specs.Stages.{home_row}
-use Rattle.turns.specs.State.{state_of, Setting, Within, Ready, Kept, Turned, why_of, named_by, home_of}
+use Rattle.grants.specs.Grants.{why_of}
+use Rattle.turns.specs.State.{state_of, SettingOf, Within, Ready, Kept, Turned, named_by, home_of}
 
 -- ---- one line
 
@@ -56,7 +57,7 @@ turns_from b m s = turns b m 0 b.rights s
 
 pub record CanServe (st t rs : List ℕ) (pa : List (List ℕ)) (ri : List ℕ) (m : ℕ) (f a : List ℕ) (sh : List Bool) (bd rp : List ℕ) : Type 0 where
   pub basin : Basin
-  pub setting : Setting basin st t rs pa ri
+  pub setting : SettingOf basin st t rs pa ri
   pub in-year : m < 12
   pub river : RiverOk t f a 1000000000000000000
   pub board : BoardOk bd 1000000000000000000

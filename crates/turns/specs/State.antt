@@ -11,6 +11,7 @@ use Rattle.rules.specs.Accepted.{Accepted, most_amount}
 use Rattle.records.specs.Records.{stations_of, reservoirs_of, rights_of, right_count, right_of}
 use Rattle.records.specs.Table.{table_of, sums_of}
 use Rattle.river.specs.Arrays.{levels_of, RiverOk}
+use Rattle.grants.specs.Grants.{why_of}
 use Rattle.grants.specs.declared.grants.Grant.{Grant as GrantMade}
 use Rattle.grants.specs.declared.grants.Reason.{Reason}
 use Rattle.grants.specs.declared.grants.Reason.TheVariants.{Met, Called, RiverLow, StorageOut}
@@ -41,7 +42,7 @@ state_of b f a sh bd = record {
 
 -- ---- the basin that the parts of a file describe: bodies st, rs and ri, the table t of rows below, the running sums pa of its patterns
 
-pub record Setting (b : Basin) (st t rs : List ℕ) (pa : List (List ℕ)) (ri : List ℕ) : Type 0 where
+pub record SettingOf (b : Basin) (st t rs : List ℕ) (pa : List (List ℕ)) (ri : List ℕ) : Type 0 where
   pub accepted : Accepted b
   pub stations : b.stations ≡ stations_of st
   pub table : t ≡ table_of b.stations
@@ -58,7 +59,7 @@ pub record Within (b : Basin) (bd : List ℕ) : Type 0 where
 
 pub record Ready (st t rs : List ℕ) (pa : List (List ℕ)) (ri : List ℕ) (i m : ℕ) (f a : List ℕ) (sh : List Bool) (bd : List ℕ) : Type 0 where
   pub basin : Basin
-  pub setting : Setting basin st t rs pa ri
+  pub setting : SettingOf basin st t rs pa ri
   pub place : i < right_count ri
   pub in-year : m < 12
   pub river : RiverOk t f a 4000000000000000000
@@ -68,13 +69,7 @@ pub record Ready (st t rs : List ℕ) (pa : List (List ℕ)) (ri : List ℕ) (i 
 
 -- ---- what a turn leaves
 
--- 01's number and station of a reason, of a right whose reservoir stands at a station
-unfoldable pub why_of : Reason → ℕ
-why_of Met = 0
-why_of (Called s) = 1
-why_of (RiverLow s) = 2
-why_of StorageOut = 3
-
+-- the station that a reason names, of a right whose reservoir stands at a station
 unfoldable pub named_by : ℕ → Reason → ℕ
 named_by home Met = 0
 named_by home (Called s) = s

@@ -5,55 +5,46 @@ ghost use Rattle.rules.specs.Basin.{Basin};
 ghost use Rattle.records.specs.Records.{rows_of, reservoir_count};
 ghost use Rattle.turns.specs.Lines.{reservoir_station, CanName, line_of, CanLine, LineServed, CanServe, Served};
 ghost use Rattle.grants.specs.Stages.{home_row};
-ghost use Rattle.turns.specs.State.{why_of, named_by, Setting};
+ghost use Rattle.turns.specs.State.{named_by, SettingOf};
 
+use crate::Setting;
 use crate::serve::{Turn, serve_right};
 use grants::grants::{Grant, Reason, station_number};
-use numbers::{index, wide32};
 use places::report::{FROM_STORAGE, REASON, STATION, line_place};
 use records::reservoirs::reservoir_at;
 use records::rights::right_at;
-// 01's number for a reason.
-fn why(reason: Reason) -> u64
-    ensures { result ≡ why_of reason }
-{
-    match reason {
-        Reason::Met => 0,
-        Reason::Called(_) => 1,
-        Reason::RiverLow(_) => 2,
-        Reason::StorageOut => 3,
-    }
-}
+use river::River;
 
 // The station of reservoir v.
-fn reservoir_station(stations: &[u8], reservoirs: &[u8], v: usize) -> u64
-    requires { (v < reservoir_count reservoirs.now) × (home_row reservoirs.now v < rows_of stations.now) }
-    ensures { result ≡ reservoir_station stations.now reservoirs.now v }
+fn reservoir_station(setting: &Setting, v: usize) -> u64
+    requires { let s = setting.now in (v < reservoir_count s.bodies.reservoirs.now) × (home_row s.bodies.reservoirs.now v < rows_of s.bodies.stations.now) }
+    ensures { result ≡ reservoir_station setting.now.bodies.stations.now setting.now.bodies.reservoirs.now v }
 {
-    let reservoir = reservoir_at(reservoirs, v);
-    wide32(station_number(stations, index(reservoir.row)))
+    let reservoir = reservoir_at(setting.bodies.reservoirs, v);
+    u64::from(station_number(setting.bodies.stations, usize::from(reservoir.row)))
 }
 
 // The station that a reason names; that of the right's reservoir v where its storage gave out.
-fn name(stations: &[u8], reservoirs: &[u8], v: usize, reason: Reason) -> u64
-    requires { CanName stations.now reservoirs.now v reason }
-    ensures { result ≡ named_by (reservoir_station stations.now reservoirs.now v) reason }
+#[tactic(auto, unfolding(crate::specs::State::named_by))]
+fn name(setting: &Setting, v: usize, reason: Reason) -> u64
+    requires { CanName setting.now.bodies.stations.now setting.now.bodies.reservoirs.now v reason }
+    ensures { result ≡ named_by (reservoir_station setting.now.bodies.stations.now setting.now.bodies.reservoirs.now v) reason }
 {
     match reason {
         Reason::Met => 0,
-        Reason::Called(s) => wide32(s),
-        Reason::RiverLow(s) => wide32(s),
-        Reason::StorageOut => reservoir_station(stations, reservoirs, v),
+        Reason::Called(s) => u64::from(s),
+        Reason::RiverLow(s) => u64::from(s),
+        Reason::StorageOut => reservoir_station(setting, v),
     }
 }
 
 // The line of right i.
+#[tactic(auto, unfolding(crate::specs::Lines::line_of))]
 fn put_line(report: &mut [u64], i: usize, grant: Grant, station: u64)
     requires { (i < 256) × (station_place i < length report.old) }
     ensures { report.new ≡ line_of report.old i grant station }
 {
-    let told = grant.reason;
-    let reason = why(told);
+    let reason = u64::from(grant.reason);
     let line = line_place(i);
     report[line] = grant.from_river;
     report[line + FROM_STORAGE] = grant.from_storage;
@@ -63,58 +54,41 @@ fn put_line(report: &mut [u64], i: usize, grant: Grant, station: u64)
 
 // A turn with its line in the report. Answers what of it goes deep.
 fn serve_line(
-    stations: &[u8],
-    below: &[u8; 64],
-    reservoirs: &[u8],
-    patterns: &[[u8; 12]; 16],
-    rights: &[u8],
+    setting: &Setting,
     turn: Turn,
-    flow: &mut [u64; 64],
-    available: &mut [u64; 64],
+    river: &mut River,
     short: &mut [bool; 64],
     board: &mut [u64],
     report: &mut [u64],
 ) -> u64
-    requires { CanLine stations.now below.now reservoirs.now patterns.now rights.now turn.right turn.month flow.old available.old short.old board.old report.old }
-    ensures { (b : Basin) → Setting b stations.now below.now reservoirs.now patterns.now rights.now → LineServed b rights.now turn.right turn.month flow.old available.old short.old board.old report.old flow.new available.new short.new board.new report.new result }
+    requires { let s = setting.now in CanLine s.bodies.stations.now s.below s.bodies.reservoirs.now s.sums s.bodies.rights.now turn.right turn.month river.old.flow river.old.available short.old board.old report.old }
+    ensures { let s = setting.now in (b : Basin) → SettingOf b s.bodies.stations.now s.below s.bodies.reservoirs.now s.sums s.bodies.rights.now → LineServed b s.bodies.rights.now turn.right turn.month river.old.flow river.old.available short.old board.old report.old river.new.flow river.new.available short.new board.new report.new result }
 {
     let i = turn.right;
-    let right = right_at(rights, i);
-    let grant = serve_right(
-        stations, below, reservoirs, patterns, rights, turn, flow, available, short, board,
-    );
-    let reason = grant.reason;
-    let deep = grant.deep;
-    let station = name(stations, reservoirs, index(right.reservoir), reason);
+    let right = right_at(setting.bodies.rights, i);
+    let grant = serve_right(setting, turn, river, short, board);
+    let station = name(setting, usize::from(right.reservoir), grant.reason);
     put_line(report, i, grant, station);
-    deep
+    grant.deep
 }
 
 // All rights in list order. Answers what goes deep of all of them.
 pub fn serve_all(
-    stations: &[u8],
-    below: &[u8; 64],
-    reservoirs: &[u8],
-    patterns: [[u8; 12]; 16],
-    rights: &[u8],
+    setting: &Setting,
     m: usize,
-    flow: &mut [u64; 64],
-    available: &mut [u64; 64],
+    river: &mut River,
     short: &mut [bool; 64],
     board: &mut [u64],
     report: &mut [u64],
 ) -> u64
-    requires { CanServe stations.now below.now reservoirs.now patterns rights.now m flow.old available.old short.old board.old report.old }
-    ensures { (b : Basin) → Setting b stations.now below.now reservoirs.now patterns rights.now → Served b m flow.old available.old short.old board.old report.old flow.new available.new short.new board.new report.new result }
+    requires { let s = setting.now in CanServe s.bodies.stations.now s.below s.bodies.reservoirs.now s.sums s.bodies.rights.now m river.old.flow river.old.available short.old board.old report.old }
+    ensures { let s = setting.now in (b : Basin) → SettingOf b s.bodies.stations.now s.below s.bodies.reservoirs.now s.sums s.bodies.rights.now → Served b m river.old.flow river.old.available short.old board.old report.old river.new.flow river.new.available short.new board.new report.new result }
 {
-    let n = rights.len() / 76;
+    let n = setting.bodies.right_count();
     let mut deep: u64 = 0;
     for i in 0..n {
         let turn = Turn { right: i, month: m };
-        deep += serve_line(
-            stations, below, reservoirs, &patterns, rights, turn, flow, available, short, board,
-            report,
-        );
+        deep += serve_line(setting, turn, river, short, board, report);
     }
     deep
 }

@@ -2,13 +2,14 @@
 ghost use Rattle.std.specs.Prelude.{◌≡◌};
 ghost use Rattle.rules.specs.Basin.{Basin};
 ghost use Rattle.turns.specs.Finish.{CanFinish, Finished, short_reason};
-ghost use Rattle.turns.specs.State.{Ready, Setting, Turned};
+ghost use Rattle.turns.specs.State.{Ready, SettingOf, Turned};
 
+use crate::Setting;
 use grants::grants::{Grant, Reason, river_part};
 use grants::stages::{demand_of, draw, fill, take};
-use numbers::{index, wide8};
 use records::rights::{Kind, RightRecord, right_at};
 use returns::returning::{Return, give_returns};
+use river::River;
 
 // Whose turn it is, by the right's place in the list, and in which month of the year.
 #[derive(Clone, Copy)]
@@ -38,32 +39,36 @@ fn short_reason(kind: Kind, why: Reason) -> Reason
 
 // The last stage of a turn: the returns, the mark of a short row, the grant.
 fn finish(
-    below: &[u8; 64],
-    patterns: &[[u8; 12]; 16],
-    rights: &[u8],
+    setting: &Setting,
     i: usize,
     right: RightRecord,
     share: Share,
-    flow: &mut [u64; 64],
-    available: &mut [u64; 64],
+    river: &mut River,
     short: &mut [bool; 64],
     board: &mut [u64],
 ) -> Grant
-    requires { CanFinish below.now patterns.now rights.now i right share flow.old available.old short.old board.old }
-    ensures { Finished below.now patterns.now rights.now i right share flow.old available.old short.old board.old flow.new available.new short.new board.new result }
+    requires { let s = setting.now in CanFinish s.below s.sums s.bodies.rights.now i right share river.old.flow river.old.available short.old board.old }
+    ensures { let s = setting.now in Finished s.below s.sums s.bodies.rights.now i right share river.old.flow river.old.available short.old board.old river.new.flow river.new.available short.new board.new result }
 {
     let part = share.from_river;
     let stored = share.from_storage;
     let d = part + stored;
-    let rest = d - d * wide8(right.efficiency) / 100;
-    let row = index(right.row);
+    let rest = d - d * u64::from(right.efficiency) / 100;
+    let row = usize::from(right.row);
     let back = Return {
         right: i,
-        points: index(right.points),
-        pattern: index(right.pattern),
+        points: usize::from(right.points),
+        pattern: usize::from(right.pattern),
         amount: rest,
     };
-    let deep = give_returns(below, patterns, rights, back, flow, available, board);
+    let deep = give_returns(
+        &setting.below,
+        &setting.sums,
+        setting.bodies.rights,
+        back,
+        river,
+        board,
+    );
     if d < share.demand {
         short[row] = true;
         let reason = share.reason;
@@ -84,40 +89,49 @@ fn finish(
 
 // The turn of a right.
 pub fn serve_right(
-    stations: &[u8],
-    below: &[u8; 64],
-    reservoirs: &[u8],
-    patterns: &[[u8; 12]; 16],
-    rights: &[u8],
+    setting: &Setting,
     turn: Turn,
-    flow: &mut [u64; 64],
-    available: &mut [u64; 64],
+    river: &mut River,
     short: &mut [bool; 64],
     board: &mut [u64],
 ) -> Grant
-    requires { Ready stations.now below.now reservoirs.now patterns.now rights.now turn.right turn.month flow.old available.old short.old board.old }
-    ensures { (b : Basin) → Setting b stations.now below.now reservoirs.now patterns.now rights.now → Turned b rights.now turn.right turn.month flow.old available.old short.old board.old flow.new available.new short.new board.new result }
+    requires { let s = setting.now in Ready s.bodies.stations.now s.below s.bodies.reservoirs.now s.sums s.bodies.rights.now turn.right turn.month river.old.flow river.old.available short.old board.old }
+    ensures { let s = setting.now in (b : Basin) → SettingOf b s.bodies.stations.now s.below s.bodies.reservoirs.now s.sums s.bodies.rights.now → Turned b s.bodies.rights.now turn.right turn.month river.old.flow river.old.available short.old board.old river.new.flow river.new.available short.new board.new result }
 {
     let i = turn.right;
-    let right = right_at(rights, i);
+    let below = &setting.below;
+    let reservoirs = setting.bodies.reservoirs;
+    let right = right_at(setting.bodies.rights, i);
     let kind = right.kind;
-    let row = index(right.row);
-    let v = index(right.reservoir);
-    let demand = demand_of(reservoirs, rights, i, right, turn.month, board);
-    let river = river_part(stations, below, available, short, kind, row, demand);
-    let part = river.part;
-    let reason = river.reason;
-    let why = short_reason(kind, reason);
-    take(below, flow, available, kind, row, part);
+    let row = usize::from(right.row);
+    let v = usize::from(right.reservoir);
+    let demand = demand_of(
+        reservoirs,
+        setting.bodies.rights,
+        i,
+        right,
+        turn.month,
+        board,
+    );
+    let seen = river_part(
+        setting.bodies.stations,
+        below,
+        river,
+        short,
+        kind,
+        row,
+        demand,
+    );
+    let part = seen.part;
+    let why = short_reason(kind, seen.reason);
+    take(below, river, kind, row, part);
     fill(reservoirs, board, kind, v, i, part);
-    let stored = draw(below, reservoirs, flow, board, kind, v, row, demand - part);
+    let stored = draw(below, reservoirs, river, board, kind, v, row, demand - part);
     let share = Share {
         demand,
         from_river: part,
         from_storage: stored,
         reason: why,
     };
-    finish(
-        below, patterns, rights, i, right, share, flow, available, short, board,
-    )
+    finish(setting, i, right, share, river, short, board)
 }

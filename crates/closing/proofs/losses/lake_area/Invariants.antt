@@ -1,7 +1,6 @@
 -- `closing::losses::lake_area` meets its contract. Assumes nothing.
-use Prim.Native.Nat.{◌≤◌}
 use Rattle.closing.proofs.Surveyed.{Reached}
 use Rattle.closing.proofs.losses.lake_area.Given as goal
 
 abbrev pub invariant-loop-k : goal.invariant-loop-k
-invariant-loop-k l = (l.k ≤ 3) × Reached l.reservoirs l.v l.storage l.k l.low
+invariant-loop-k l = Reached l.reservoirs l.v l.storage l.k l.low

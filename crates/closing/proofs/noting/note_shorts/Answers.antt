@@ -1,6 +1,7 @@
 use mathlib.Core.List.{List}
-use mathlib.Core.Path.{◌≡◌, ap, ◌∙◌, subst}
-use mathlib.Core.Bool.{not}
+use mathlib.Core.Path.{◌≡◌, refl, ap, ◌∙◌}
+use mathlib.Core.Bool.{Bool, true, false, not}
+use mir.Val.{bool_byte}
 use Prim.Native.Nat.{ℕ, ◌+◌, ◌<◌}
 use native.Mathlib.Omega.{arith}
 use borrow.Author.Rules.{rules}
@@ -8,6 +9,7 @@ use lib.Dec.{eqb}
 use lib.ListN.{get_or}
 use Rattle.general.specs.Sums.{only}
 use Rattle.general.specs.Tests.{with_bit}
+use Rattle.general.proofs.Tests.{only-le}
 use Rattle.general.proofs.Loops.{total-none, total-more}
 use Rattle.places.specs.Board.{word_place}
 use Rattle.places.specs.Report.{from_river_place}
@@ -31,26 +33,13 @@ reasons-more : (rp : List ℕ) (k c q x : ℕ) → c ≡ reasons_in k rp → q �
 unfolding reasons_in
 reasons-more rp k c q x e eq ex = ap (λ (y : ℕ). c + y) (ex ∙ ap (λ (j : ℕ). only (not (eqb (get_or rp (j + 2) 0) 0)) 1) eq) ∙ total-more (λ i. only (has_reason rp i) 1) k c e
 
+-- what a test counts for, as the code adds it
+counts : (t : Bool) → bool_byte t ≡ only t 1
+counts true = refl
+counts false = refl
+
 pub loop-i-init : goal.loop-i-init
 loop-i-init c = (search rules, search rules, reasons-none c.args.report.now, noted-none c.args.m c.args.report.now c.args.board.now)
-
-pub word_place-place-requires : goal.word_place-place-requires
-word_place-place-requires c = omega (arith, c.requires.few)
-
-pub line_place-requires : goal.line_place-requires
-line_place-requires c = omega (arith, c.requires.few)
-
-pub bounds-board-place : goal.bounds-board-place
-bounds-board-place c = omega (arith, c.requires.few, c.requires.size, c.loop-i.invariant.3.size, c.word_place-place.ensures)
-
-pub put_bit-requires : goal.put_bit-requires
-put_bit-requires c =
-    let s = c.args in
-    let w = small s.n s.m s.board.now s.report.now c.requires c.loop-i.i (omega arith) c.loop-i.board c.loop-i.invariant.3 c.word_place-place.result c.word_place-place.ensures in
-    (omega (arith, c.requires.in-year), omega (arith, w))
-
-pub bounds-board-place-in-loop-i : goal.bounds-board-place-in-loop-i
-bounds-board-place-in-loop-i c = omega (arith, c.requires.few, c.requires.size, c.loop-i.invariant.3.size, c.word_place-place.ensures)
 
 pub loop-i-preserved : goal.loop-i-preserved
 loop-i-preserved c =
@@ -59,18 +48,8 @@ loop-i-preserved c =
     let p = c.word_place-place in
     let q = c.line_place in (
       omega arith,
-      omega (arith, l.invariant.1, c.one_if-shorts.ensures.1),
-      reasons-more s.report.now l.i l.shorts q.result _ l.invariant.2 q.ensures c.one_if-shorts.ensures.0,
+      omega (arith, l.invariant.1, c.from-shorts.ensures ∙ counts _, only-le (not (eqb (get_or s.report.now (q.result + 2) 0) 0)) 1),
+      reasons-more s.report.now l.i l.shorts q.result _ l.invariant.2 q.ensures (c.from-shorts.ensures ∙ counts _),
       noted-at s.m s.report.now s.board.now l.i (omega (arith, c.requires.few)) c.requires.size l.board l.invariant.3 p.result _ p.ensures
           (read_at s.report.now s.m l.i p.result q.result _ l.board q.ensures c.put_bit.ensures),
     )
-
-pub shape_of-board : goal.shape_of-board
-shape_of-board c = c.loop-i.invariant.3.size
-
-pub returns : goal.returns
-returns c =
-    let s = c.args in
-    let l = c.loop-i in
-    let all : l.i ≡ s.n = omega arith in
-    (l.invariant.2 ∙ ap (λ (k : ℕ). reasons_in k s.report.now) all, subst (λ (k : ℕ). WordsNoted s.m k s.report.now s.board.now l.board) all l.invariant.3)

@@ -9,17 +9,13 @@ use Rattle.grants.proofs.stages.take.Goals as goal
 
 pub returns-then-d-eq0 : goal.returns-then-d-eq0
 returns-then-d-eq0 c =
-    taken-nothing c.args.d c.args.below.now c.args.row c.args.flow.now c.args.available.now c.args.kind c.if-d-eq0.true
+    taken-nothing c.args.d c.args.below.now c.args.row c.args.river.now.flow c.args.river.now.available c.args.kind c.if-d-eq0.true
 
 pub returns-in-Instream : goal.returns-in-Instream
 returns-in-Instream c =
-    taken-instream c.args.d c.args.below.now c.args.row c.args.flow.now c.args.available.now c.args.kind c.in-Instream.is (omega (arith, c.requires.on, c.requires.places)) c.requires.enough
-
-pub divert-requires : goal.divert-requires
-divert-requires c =
-    c.requires.divert_ok (but-instream (λ k. is_instream k ≡ false) refl refl refl c.args.kind c.in_default.not-Instream)
+    taken-instream c.args.d c.args.below.now c.args.row c.args.river.now.flow c.args.river.now.available c.args.kind c.in-Instream.is (omega (arith, c.requires.on, c.requires.places)) c.requires.enough
 
 pub returns : goal.returns
 returns c =
     let k : is_instream c.args.kind ≡ false = but-instream (λ k. is_instream k ≡ false) refl refl refl c.args.kind c.in_default.not-Instream in
-    taken-along c.args.d c.args.below.now c.args.row c.args.flow.now c.args.available.now _ _ c.divert.ensures c.args.kind k
+    taken-along c.args.d c.args.below.now c.args.row c.args.river.now.flow c.args.river.now.available _ _ c.divert.ensures c.args.kind k

@@ -15,34 +15,23 @@ entered runoff bd row ex ep = λ z. ex z + get_or bd (ep z) 0
 pub loop-row-init : goal.loop-row-init
 loop-row-init c =
     let s = c.args in
-    (omega arith, gathering-none s.below.now s.runoff.now s.board.now s.flow.now s.available.now c.requires)
-
-pub offset_bounds-board-due_place : goal.offset_bounds-board-due_place
-offset_bounds-board-due_place c = omega (arith, c.requires.sheet)
-
-pub bounds-board-due_place : goal.bounds-board-due_place
-bounds-board-due_place c = omega (arith, c.requires.sheet, c.requires.size)
-
-pub overflow_add-d : goal.overflow_add-d
-overflow_add-d c = omega (arith, entered c.args.runoff.now c.args.board.now c.loop-row.row c.wide32.ensures.0 c.due_place.ensures, c.requires.small c.loop-row.row)
+    gathering-none s.below.now s.runoff.now s.board.now s.river.now.flow s.river.now.available c.requires
 
 pub send_down-requires : goal.send_down-requires
 send_down-requires c =
     let s = c.args in
     let l = c.loop-row in
-    can-send s.below.now s.runoff.now s.board.now s.flow.now s.available.now c.requires l.row (omega (arith, c.requires.sheet)) l.flow l.available l.invariant.1 _ (entered s.runoff.now s.board.now l.row c.wide32.ensures.0 c.due_place.ensures)
+    can-send s.below.now s.runoff.now s.board.now s.river.now.flow s.river.now.available c.requires l.row (omega (arith, c.requires.sheet)) l.river.flow l.river.available l.invariant _ (entered s.runoff.now s.board.now l.row c.from.ensures c.due_place.ensures)
 
 pub loop-row-preserved : goal.loop-row-preserved
 loop-row-preserved c =
     let s = c.args in
-    let l = c.loop-row in (
-      omega arith,
-      gathering-more s.below.now s.runoff.now s.board.now s.flow.now s.available.now c.requires l.row (omega (arith, c.requires.sheet)) l.flow l.available l.invariant.1 _ (entered s.runoff.now s.board.now l.row c.wide32.ensures.0 c.due_place.ensures) _ _ c.send_down.ensures,
-    )
+    let l = c.loop-row in
+    gathering-more s.below.now s.runoff.now s.board.now s.river.now.flow s.river.now.available c.requires l.row (omega (arith, c.requires.sheet)) l.river.flow l.river.available l.invariant _ (entered s.runoff.now s.board.now l.row c.from.ensures c.due_place.ensures) _ _ c.send_down.ensures
 
 pub returns : goal.returns
 returns c =
     let s = c.args in
     let l = c.loop-row in
-    gathered-all s.below.now s.runoff.now s.board.now s.flow.now s.available.now c.requires l.flow l.available
-    (subst (λ (k : ℕ). Gathering s.below.now s.runoff.now s.board.now k l.flow l.available) (omega arith) l.invariant.1)
+    gathered-all s.below.now s.runoff.now s.board.now s.river.now.flow s.river.now.available c.requires l.river.flow l.river.available
+    (subst (λ (k : ℕ). Gathering s.below.now s.runoff.now s.board.now k l.river.flow l.river.available) (omega arith) l.invariant)

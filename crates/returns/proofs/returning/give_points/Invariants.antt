@@ -1,5 +1,5 @@
 -- `returns::returning::give_points` meets its contract. Assumes nothing.
-use Prim.Native.Nat.{ℕ, ◌*◌, ◌/◌, ◌≤◌}
+use Prim.Native.Nat.{ℕ, ◌*◌, ◌/◌}
 use mathlib.Core.Path.{◌≡◌}
 use mathlib.Core.List.{List}
 use Rattle.returns.specs.Dues.{Sums}
@@ -8,4 +8,4 @@ use Rattle.returns.proofs.returning.give_points.Given as goal
 
 abbrev pub invariant-loop-k : goal.invariant-loop-k
 invariant-loop-k l =
-    (l.k ≤ l.points) × (l.c ≡ points_up_to l.rights l.i l.k) × (l.before ≡ l.rest * l.c / 100) × ((pattern : List ℕ) → Sums pattern l.sums → Gave l.below pattern l.rights l.i l.k l.rest l.initial.flow l.initial.available l.initial.board l.flow l.available l.board l.deep)
+    (l.c ≡ points_up_to l.rights l.i l.k) × (l.before ≡ l.rest * l.c / 100) × ((pattern : List ℕ) → Sums pattern l.sums → Gave l.below pattern l.rights l.i l.k l.rest l.initial.river.flow l.initial.river.available l.initial.board l.river.flow l.river.available l.board l.deep)

@@ -14,11 +14,11 @@ use Rattle.turns.proofs.lines.serve_line.Goals as goal
 
 pub name-station-requires : goal.name-station-requires
 name-station-requires c =
-    let s = c.args in
+    let s = c.args.setting.now.bodies in
     let q = c.requires.ready in
     let t = the-turn q in
     let turned = c.serve_right-grant.ensures q.basin q.setting in
-    let e = c.index.ensures.0 ∙ ap (λ (x : RightRecord). x.reservoir) c.right_at-right.ensures in
+    let e = c.from.ensures ∙ ap (λ (x : RightRecord). x.reservoir) c.right_at-right.ensures in
     λ h. subst (λ (v : ℕ). (v < reservoir_count s.reservoirs.now) × (home_row s.reservoirs.now v < rows_of s.stations.now)) (sym e) (can-name t.right t.month (the_state t) c.serve_right-grant.result turned.tells h)
 
 pub put_line-requires : goal.put_line-requires
@@ -26,10 +26,10 @@ put_line-requires c = (place-most (the-turn c.requires.ready).right, c.requires.
 
 pub returns : goal.returns
 returns c =
-    let s = c.args in
+    let s = c.args.setting.now.bodies in
     let q = c.requires.ready in
     let made = c.serve_right-grant.result in
-    let e = c.index.ensures.0 ∙ ap (λ (x : RightRecord). x.reservoir) c.right_at-right.ensures in
+    let e = c.from.ensures ∙ ap (λ (x : RightRecord). x.reservoir) c.right_at-right.ensures in
     λ b w.
     let t = turn_in q b w in
     let turned = c.serve_right-grant.ensures b w in
@@ -38,6 +38,6 @@ returns c =
     record {
       made = made;
       turned = turned;
-      written = c.put_line.ensures ∙ ap (line_of s.report.now s.turn.right made) named;
+      written = c.put_line.ensures ∙ ap (line_of c.args.report.now c.args.turn.right made) named;
       lost = refl;
     }

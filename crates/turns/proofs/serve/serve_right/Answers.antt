@@ -8,44 +8,46 @@ use Rattle.turns.proofs.serve.serve_right.Goals as goal
 pub demand_of-demand-requires : goal.demand_of-demand-requires
 demand_of-demand-requires c = (c.right_at-right.ensures, can-ask (the-turn c.requires))
 
-pub river_part-river-requires : goal.river_part-river-requires
-river_part-river-requires c =
-    see-ok (the-turn c.requires) (as_read c.right_at-right.ensures c.index-row.ensures.0 c.index-v.ensures.0)
+pub river_part-seen-requires : goal.river_part-seen-requires
+river_part-seen-requires c =
+    see-ok (the-turn c.requires) (as_read c.right_at-right.ensures c.from-row.ensures c.from-v.ensures)
 
 pub take-requires : goal.take-requires
 take-requires c =
-    take-ok (the-turn c.requires) (as_read c.right_at-right.ensures c.index-row.ensures.0 c.index-v.ensures.0)
-    c.demand_of-demand.ensures c.river_part-river.ensures
+    take-ok (the-turn c.requires) (as_read c.right_at-right.ensures c.from-row.ensures c.from-v.ensures)
+    c.demand_of-demand.ensures c.river_part-seen.ensures
 
 pub fill-requires : goal.fill-requires
 fill-requires c =
-    fill-ok (the-turn c.requires) (as_read c.right_at-right.ensures c.index-row.ensures.0 c.index-v.ensures.0)
-    c.demand_of-demand.ensures c.river_part-river.ensures
+    fill-ok (the-turn c.requires) (as_read c.right_at-right.ensures c.from-row.ensures c.from-v.ensures)
+    c.demand_of-demand.ensures c.river_part-seen.ensures
 
 pub overflow_sub-demand : goal.overflow_sub-demand
 overflow_sub-demand c =
     omega (
       arith,
-      part-ok (the-turn c.requires) (as_read c.right_at-right.ensures c.index-row.ensures.0 c.index-v.ensures.0)
-          c.demand_of-demand.ensures c.river_part-river.ensures,
+      part-ok (the-turn c.requires) (as_read c.right_at-right.ensures c.from-row.ensures c.from-v.ensures)
+          c.demand_of-demand.ensures c.river_part-seen.ensures,
     )
 
 pub draw-stored-requires : goal.draw-stored-requires
 draw-stored-requires c =
-    draw-ok (the-turn c.requires) (as_read c.right_at-right.ensures c.index-row.ensures.0 c.index-v.ensures.0)
-    c.demand_of-demand.ensures c.river_part-river.ensures
+    draw-ok (the-turn c.requires) (as_read c.right_at-right.ensures c.from-row.ensures c.from-v.ensures)
+    c.demand_of-demand.ensures c.river_part-seen.ensures
     c.take.ensures c.fill.ensures
 
 pub finish-requires : goal.finish-requires
 finish-requires c =
-    finish-ok (the-turn c.requires) (as_read c.right_at-right.ensures c.index-row.ensures.0 c.index-v.ensures.0)
-    c.demand_of-demand.ensures c.river_part-river.ensures
-    c.take.ensures c.fill.ensures c.draw-stored.ensures c.short_reason-why.result
+    rw c.draw-stored.ensures.1
+    (finish-ok (the-turn c.requires) (as_read c.right_at-right.ensures c.from-row.ensures c.from-v.ensures)
+    c.demand_of-demand.ensures c.river_part-seen.ensures
+    c.take.ensures c.fill.ensures c.draw-stored.ensures.0 c.short_reason-why.result)
 
 pub returns : goal.returns
 returns c =
     λ b w.
     let t = turn_in c.requires b w in
-    turned t (after_turn t (as_read c.right_at-right.ensures c.index-row.ensures.0 c.index-v.ensures.0)
-    c.demand_of-demand.ensures c.river_part-river.ensures
-    c.take.ensures c.fill.ensures c.draw-stored.ensures c.short_reason-why.ensures c.finish.ensures)
+    let finished = c.finish.ensures in
+    turned t (after_turn t (as_read c.right_at-right.ensures c.from-row.ensures c.from-v.ensures)
+    c.demand_of-demand.ensures c.river_part-seen.ensures
+    c.take.ensures c.fill.ensures c.draw-stored.ensures.0 c.short_reason-why.ensures (rw c.draw-stored.ensures.1 at finished))
