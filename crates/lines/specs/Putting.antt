@@ -1,17 +1,19 @@
--- What the functions that put text into a lent list of bytes ask and promise.
+-- What the functions that put lines into a text ask and promise.
 use Rattle.std.specs.Prelude.{List, ◌++◌, ◌≡◌, ℕ, ◌+◌, ◌≤◌, ◌<◌, length, get_or, take}
 use Rattle.places.specs.Report.{evaporation_place, report_end}
 use Rattle.records.specs.declared.bodies.Bodies.{Bodies}
 use Rattle.records.specs.Records.{rows_of, reservoir_count, right_count}
 use Rattle.boards.specs.Bodies.{Bounded}
+use Rattle.lines.specs.Texts.{Text}
 
--- A text was put into a list from the place `at` on: what stood before it is kept. It ends at the place r, at most `most` places on.
-pub record Put (most at : ℕ) (text o o' : List ℕ) (r : ℕ) : Type 0 where
-  pub put : take r o' ≡ take at o ++ text
-  pub within : r ≤ at + most
+-- A line was added: what stood before it is kept, and of the room at most `most` bytes are taken.
+pub record Put (most : ℕ) (line : List ℕ) (t t' : Text) : Type 0 where
+  pub bytes : t'.bytes ≡ t.bytes ++ line
+  pub room : t'.room + length line ≡ t.room
+  pub within : length line ≤ most
 
--- the same for a text that ends where its length says
-pub record PutWhole (at : ℕ) (text o o' : List ℕ) (r : ℕ) : Type 0 where
+-- The same in the list of a text: its bytes go from a place on, and what stands before it is kept. It ends at the place r.
+pub record PutAt (at : ℕ) (text o o' : List ℕ) (r : ℕ) : Type 0 where
   pub put : take r o' ≡ take at o ++ text
   pub ends : r ≡ at + length text
 
@@ -21,7 +23,7 @@ abbrev pub most_text : ℕ
 most_text = 32_365
 
 -- what the text of a month asks for, of the bodies of an accepted file, the board that the month left and its report
-pub record CanList (w : Bodies) (board report out : List ℕ) (at : ℕ) : Type 0 where
+pub record CanList (w : Bodies) (board report : List ℕ) (t : Text) : Type 0 where
   pub few : right_count w.rights.now ≤ 256
   pub some_row : 0 < rows_of w.stations.now
   pub few_rows : rows_of w.stations.now ≤ 64
@@ -29,4 +31,4 @@ pub record CanList (w : Bodies) (board report out : List ℕ) (at : ℕ) : Type 
   pub told : report_end (right_count w.rights.now) (rows_of w.stations.now) (reservoir_count w.reservoirs.now) ≤ length report
   pub small : (v : ℕ) → v < reservoir_count w.reservoirs.now → get_or report (evaporation_place (right_count w.rights.now) (rows_of w.stations.now) v) 0 ≤ 2_000_000_000
   pub bounded : Bounded board
-  pub room : at + most_text ≤ length out
+  pub room : most_text ≤ t.room

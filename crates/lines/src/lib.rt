@@ -1,6 +1,7 @@
-// The lines of a listing, put into a lent list of bytes. What they are is defined in `listing`.
+// The lines of a listing, put into a text. What they are is defined in `listing`.
 #![tactic(auto)]
 
 pub mod frame;
 pub mod month_lines;
-pub mod words;
+pub mod text;
+mod words;

@@ -1,7 +1,8 @@
-// Numbers and words as text. Each function puts its text from a place on, keeps what stands before it, and answers the place after it.
-ghost use Rattle.std.specs.Prelude.{[], ◌∷◌, ◌++◌, ◌≡◌, ◌+◌, ◌/◌, ◌%◌, ◌≤◌, ◌<◌, length, set};
-ghost use Rattle.listing.specs.Listing.{digit as digit_of, decimal_text, end_word, line_of, space};
-ghost use Rattle.lines.specs.Putting.{Put, PutWhole};
+// Numbers as text. The digits are put into the list of a text from a place on, and the place after them is handed on, since a text whose length is
+// written with every byte was measured: a listing took a seventh more instructions.
+ghost use Rattle.std.specs.Prelude.{[], ◌∷◌, ◌≡◌, ◌+◌, ◌*◌, ◌/◌, ◌%◌, ◌≤◌, ◌<◌, length, map, set};
+ghost use Rattle.listing.specs.Listing.{digit as digit_of, decimal_text, line_of};
+ghost use Rattle.lines.specs.Putting.{PutAt};
 
 fn digit(d: u64) -> u8
     requires { d < 10 }
@@ -21,7 +22,7 @@ fn put_pair(out: &mut [u8], at: usize, n: u64)
 // A number of one digit or two.
 fn put_small(out: &mut [u8], at: usize, n: u64) -> usize
     requires { (n < 100) × (at + length (decimal_text n) ≤ length out.old) }
-    ensures { PutWhole at (decimal_text n) out.old out.new result }
+    ensures { PutAt at (decimal_text n) out.old out.new result }
 {
     if n < 10 {
         out[at] = digit(n);
@@ -34,7 +35,7 @@ fn put_small(out: &mut [u8], at: usize, n: u64) -> usize
 // Four digits to a division of a large number. The digits in front are put first, so none are counted before they are put.
 fn put_number(out: &mut [u8], at: usize, n: u64) -> usize
     requires { at + length (decimal_text n) ≤ length out.old }
-    ensures { PutWhole at (decimal_text n) out.old out.new result }
+    ensures { PutAt at (decimal_text n) out.old out.new result }
 {
     if n < 100 {
         return put_small(out, at, n);
@@ -52,9 +53,9 @@ fn put_number(out: &mut [u8], at: usize, n: u64) -> usize
 }
 
 // Most numbers of a listing are small, and one test spares them the call of a function that calls itself.
-fn put_decimal(out: &mut [u8], at: usize, n: u64) -> usize
+pub(crate) fn put_decimal(out: &mut [u8], at: usize, n: u64) -> usize
     requires { at + length (decimal_text n) ≤ length out.old }
-    ensures { PutWhole at (decimal_text n) out.old out.new result }
+    ensures { PutAt at (decimal_text n) out.old out.new result }
 {
     if n < 100 {
         return put_small(out, at, n);
@@ -62,35 +63,18 @@ fn put_decimal(out: &mut [u8], at: usize, n: u64) -> usize
     put_number(out, at, n)
 }
 
-// A number and the byte after it: a space, or the line's end. No number has more than 20 digits.
-pub fn put_field(out: &mut [u8], at: usize, n: u64, after: u8) -> usize
-    requires { at + 21 ≤ length out.old }
-    ensures { Put 21 at (decimal_text n ++ (after ∷ [])) out.old out.new result }
+// Numbers with single spaces between, and the line's end.
+#[inline(always)]
+pub(crate) fn put_line(out: &mut [u8], from: usize, numbers: &[u64]) -> usize
+    requires { (0 < length numbers.now) × (from + 21 * length numbers.now ≤ length out.old) }
+    ensures line { PutAt from (line_of (map decimal_text numbers.now)) out.old out.new result }
+    ensures within { result ≤ from + 21 * length numbers.now }
 {
-    let next = put_decimal(out, at, n);
-    out[next] = after;
-    next + 1
-}
-
-// The last four numbers of a line.
-pub fn put_four(out: &mut [u8], at: usize, a: u64, b: u64, c: u64, d: u64) -> usize
-    requires { at + 84 ≤ length out.old }
-    ensures { Put 84 at (line_of (decimal_text a ∷ decimal_text b ∷ decimal_text c ∷ decimal_text d ∷ [])) out.old out.new result }
-{
-    let second = put_field(out, at, a, b' ');
-    let third = put_field(out, second, b, b' ');
-    let fourth = put_field(out, third, c, b' ');
-    put_field(out, fourth, d, b'\n')
-}
-
-// The word that marks the end line, and the space after it.
-pub fn put_end_word(out: &mut [u8], at: usize) -> usize
-    requires { at + 4 ≤ length out.old }
-    ensures { Put 4 at (end_word ++ (space ∷ [])) out.old out.new result }
-{
-    out[at] = b'e';
-    out[at + 1] = b'n';
-    out[at + 2] = b'd';
-    out[at + 3] = b' ';
-    at + 4
+    let mut at = put_decimal(out, from, numbers[0]);
+    for &n in &numbers[1..] {
+        out[at] = b' ';
+        at = put_decimal(out, at + 1, n);
+    }
+    out[at] = b'\n';
+    at + 1
 }

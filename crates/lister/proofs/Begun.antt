@@ -1,12 +1,14 @@
 -- A listing is opened: the header, and the file's refusal or the fresh board. Assumes nothing.
 use Rattle.std.specs.Prelude.{Option, None, Some}
 use Rattle.places.specs.Board.{board_length}
+use Rattle.places.specs.Report.{most_report}
+use Rattle.rules.specs.Tally.{report_length}
 use mathlib.Core.Bool.{true, false}
-use mathlib.Core.List.{List, ◌++◌}
+use mathlib.Core.List.{List, [], ◌++◌}
 use mathlib.Core.Path.{◌≡◌, refl, sym, ap, ◌∙◌}
-use Prim.Native.Nat.{ℕ}
+use Prim.Native.Nat.{ℕ, ◌≤◌}
 use native.Mathlib.Omega.{arith}
-use lib.ListN.{length}
+use lib.ListN.{length, length-append}
 use Rattle.general.proofs.Tests.{absurd-bool}
 use Rattle.rules.specs.Answers.{Answer, or_else, unless}
 use Rattle.rules.specs.declared.Verdict.TheVariants.{Accepted}
@@ -19,11 +21,12 @@ use Rattle.fresh.specs.Fresh.{fresh_refusal, fresh_board, Fresh, fresh_settled, 
 use Rattle.answers.proofs.Answers.{accepted-of, no-refusal, settled-some}
 use Rattle.fresh.proofs.Start.{fresh-can}
 use Rattle.listing.specs.Listing.{refusal_line, header}
+use Rattle.lines.specs.Texts.{Text}
 use Rattle.lines.specs.Putting.{Put}
 use Rattle.listing.specs.Run.{Step, begin}
-use Rattle.lines.proofs.Texts.{text-then}
-use Rattle.lister.specs.declared.Progress.{Progress}
-use Rattle.lister.specs.Lister.{standing, opening, Opened}
+use Rattle.lines.proofs.Texts.{put_then, list_kept}
+use Rattle.lister.specs.declared.Listing.{Listing}
+use Rattle.lister.specs.Lister.{standing, opening, Opened, InOrder}
 
 or-none : (v : Option Answer) → or_else v None ≡ v
 unfolding or_else
@@ -46,37 +49,55 @@ module _ (f bd bd' : List ℕ) (size : length bd ≡ board_length) (a : Answer) 
   answer-is : a ≡ settled (file_refusal f)
   answer-is = ap (λ (x : Fresh). x.answer) by-file ∙ settled-answer (file_refusal f) f bd
 
-  module _ (out o' : List ℕ) (q : ℕ) (head : Put 32 0 header out o' q) where
-    pub refused-open : (a.number ≡ 0 → ⊥) → (out' : List ℕ) (r : ℕ) → Put 50 q (refusal_line a) o' out' r → Opened f bd out bd' out' (record { months = 0; at = r; more = false })
+  -- The header is put into an empty text, and then l is made.
+  module _ {t u : Text} {out : List ℕ} (empty : t.bytes ≡ []) (room : t.room ≡ length out) (head : Put 32 header t u) (l : Listing) (file : l.file.now ≡ f) (board : l.board.now ≡ bd') (same_length : length bd' ≡ length bd)
+      (report : List ℕ) (report_kept : length l.report.now ≡ length report) (months : l.months ≡ 0) where
+    -- all that is put
+    opened : {most : ℕ} {line : List ℕ} (o : Step) → most ≤ 82 → Put most line t l.text → record { text = line; standing = standing l; more = l.more } ≡ o → o ≡ opening (file_refusal f) (basin_of f) bd → Opened f bd report out l
+    opened {line} o few p e m = record {
+      equation = (λ z. record { text = (p.bytes ∙ ap (λ (x : List ℕ). x ++ line) empty) z; standing = standing l; more = l.more }) ∙ e ∙ m;
+      within = omega (arith, few, p.within, ap length p.bytes, length-append t.bytes line, ap length empty);
+      list = omega (arith, list_kept p, room, ap length empty);
+      of_file = file;
+      same_length = ap length board ∙ same_length;
+      report_kept = report_kept;
+    }
+
+    pub refused-open : (a.number ≡ 0 → ⊥) → l.more ≡ false → Put 50 (refusal_line a) u l.text → Opened f bd report out l
     unfolding fresh_settled opening
-    refused-open n out' r line =
+    refused-open n more line =
         let v : file_refusal f ≡ Some a = settled-some (file_refusal f) a answer-is n in
         let kept : bd' ≡ bd = ap (λ (x : Fresh). x.board) (by-file ∙ ap (λ (x : Option Answer). fresh_settled x f bd) v) in
-        record {
-          text = header ++ refusal_line a;
-          put = text-then head line;
-          equation = (λ z. record { text = header ++ refusal_line a; standing = record { months = 0; board = kept z }; more = false }) ∙ rw v;
-        }
+        opened (record { text = header ++ refusal_line a; standing = record { months = 0; board = bd }; more = false }) (omega arith) (put_then head line)
+        (λ z. record { text = header ++ refusal_line a; standing = record { months = months z; board = (board ∙ kept) z }; more = more z }) (rw v)
 
-    pub accepted-open : a.number ≡ 0 → Opened f bd out bd' o' (record { months = 0; at = q; more = true })
+    pub accepted-open : a.number ≡ 0 → l.more ≡ true → l.text ≡ u → Opened f bd report out l
     unfolding fresh_settled opening begin
-    accepted-open n =
+    accepted-open n more e =
         let v : file_refusal f ≡ None = no-refusal f (accepted-of f a answer-is n) in
         let made : bd' ≡ fresh_board (basin_of f) = ap (λ (x : Fresh). x.board) (by-file ∙ ap (λ (x : Option Answer). fresh_settled x f bd) v) in
-        record {
-          text = header;
-          put = record { put = head.put; within = omega (arith, head.within) };
-          equation = (λ z. record { text = header; standing = record { months = 0; board = made z }; more = true }) ∙ rw v;
-        }
+        opened {most = 32} (record { text = header; standing = begin (basin_of f); more = true }) (omega arith) (rw e head)
+        (λ z. record { text = header; standing = record { months = months z; board = (board ∙ made) z }; more = more z }) (rw v)
 
 -- a listing that was opened and goes on is that of an accepted file, from the fresh board
-pub opened-on : (f bd out bd' out' : List ℕ) (r : Progress) → Opened f bd out bd' out' r → r.more ≡ true → (check_of f ≡ Accepted) × (possible (basin_of f) bd' ≡ true) × (r.months ≡ 0)
+pub opened-on : {f bd report out : List ℕ} {l : Listing} → Opened f bd report out l → l.more ≡ true → (check_of f ≡ Accepted) × (possible (basin_of f) l.board.now ≡ true) × (l.months ≡ 0)
 unfolding opening begin settled
-opened-on f bd out bd' out' r w more = go (file_refusal f) refl w.equation
+opened-on {f} {bd} {l} w more = go (file_refusal f) refl w.equation
   where
-    go : (v : Option Answer) → file_refusal f ≡ v → record { text = w.text; standing = standing r bd'; more = r.more } ≡ opening v (basin_of f) bd
-        → (check_of f ≡ Accepted) × (possible (basin_of f) bd' ≡ true) × (r.months ≡ 0)
+    go : (v : Option Answer) → file_refusal f ≡ v → record { text = l.text.bytes; standing = standing l; more = l.more } ≡ opening v (basin_of f) bd
+        → (check_of f ≡ Accepted) × (possible (basin_of f) l.board.now ≡ true) × (l.months ≡ 0)
     go None e q =
         let acc : check_of f ≡ Accepted = accepted-of f (record { number = 0; place = 0 }) (ap settled (sym e)) refl in
         (acc, ap (λ (x : Step). possible (basin_of f) x.standing.board) q ∙ fresh-can (basin_of f) (accepted-facts f acc), ap (λ (x : Step). x.standing.months) q)
     go (Some a) e q = absurd-bool more (ap (λ (x : Step). x.more) q)
+
+-- what is then in order for the months, with room for any report
+pub opened-order : {f bd report out : List ℕ} {l : Listing} → Opened f bd report out l → l.more ≡ true → length bd ≡ board_length → length report ≡ most_report → InOrder l
+opened-order {f} {l} w more size told =
+    let on = opened-on w more in
+    let facts = accepted-facts f on.0 in record {
+      accepted = ap check_of w.of_file ∙ on.0;
+      size = w.same_length ∙ size;
+      can = ap (λ (x : List ℕ). possible (basin_of x) l.board.now) w.of_file ∙ on.1;
+      told = omega (arith, w.report_kept, told, ap (λ (x : List ℕ). report_length (basin_of x)) w.of_file, facts.few_rows, facts.few_rights, facts.few_reservoirs);
+    }

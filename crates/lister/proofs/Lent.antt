@@ -2,11 +2,11 @@
 use Rattle.rules.specs.declared.Verdict.TheVariants.{Lists}
 use mathlib.Core.Bool.{true, false}
 use mathlib.Core.List.{List, [], append-nil}
-use mathlib.Core.Path.{◌≡◌, sym, ap, ◌∙◌, subst}
+use mathlib.Core.Path.{◌≡◌, refl, sym, ap, ◌∙◌, subst}
 use Prim.Native.Nat.{ℕ, suc, ◌+◌, ◌*◌, ◌≤◌, ◌<◌}
 use native.Mathlib.Numerals.{add-one}
 use native.Mathlib.Omega.{arith}
-use lib.ListN.{length, get_or, take}
+use lib.ListN.{length, get_or}
 use Rattle.rules.specs.Accepted.{Accepted}
 use Rattle.rules.specs.Basin.{Basin, rows}
 use Rattle.rules.specs.Answers.{Answer, told}
@@ -14,6 +14,7 @@ use Rattle.rules.specs.Tally.{report_length}
 use Rattle.records.specs.Records.{rows_of, right_count, basin_of}
 use Rattle.records.specs.declared.bodies.Bodies.{Bodies}
 use Rattle.records.specs.Bodies.{basin_in, BodiesOf}
+use Rattle.filecheck.specs.Check.{check_of}
 use Rattle.filecheck.proofs.Accepted.{accepted-facts}
 use Rattle.boards.specs.Board.{possible}
 use Rattle.places.specs.Report.{evaporation_place}
@@ -26,68 +27,97 @@ use Rattle.lines.specs.Putting.{most_text, CanList, Put}
 use Rattle.sheets.specs.Sheets.{sheet_of}
 use Rattle.listing.specs.Run.{sheet_bytes, Step}
 use Rattle.listing.specs.Steps.{StepMeets}
-use Rattle.lister.specs.declared.Progress.{Progress}
-use Rattle.lister.specs.Lister.{standing, CanStep, Stepped, Refused}
+use Rattle.lister.specs.declared.Listing.{Listing}
+use Rattle.lister.specs.Lister.{standing, Kept, InOrder, CanStep, Stepped, Refused}
 use Rattle.sheets.proofs.Sheets.{sheet-length}
 use Rattle.lister.proofs.Stepping.{short-meets, ended-meets, over-meets, month-meets, went-refused, went_on}
 
+-- ---- what is kept
+
+pub kept_none : (l : Listing) → Kept l l
+kept_none l = record { file = refl; same_board = refl; same_report = refl; board = refl; report = refl; text = refl }
+
+pub kept-then : {l l₁ l₂ : Listing} → Kept l l₁ → Kept l₁ l₂ → Kept l l₂
+kept-then a b = record {
+  file = b.file ∙ a.file;
+  same_board = b.same_board ∙ a.same_board;
+  same_report = b.same_report ∙ a.same_report;
+  board = b.board ∙ a.board;
+  report = b.report ∙ a.report;
+  text = b.text ∙ a.text;
+}
+
+-- what is in order stays so with a board that is possible
+pub ordered : {l l' : Listing} → InOrder l → Kept l l' → possible (basin_of l.file.now) l'.board.now ≡ true → InOrder l'
+ordered {l'} i k can = record {
+  accepted = ap check_of k.file ∙ i.accepted;
+  size = k.board ∙ i.size;
+  can = ap (λ (f : List ℕ). possible (basin_of f) l'.board.now) k.file ∙ can;
+  told = omega (arith, i.told, k.report, ap (λ (f : List ℕ). report_length (basin_of f)) k.file);
+}
+
 -- a step may be told in other words for the same
-told-as : {f part : List ℕ} {p : Progress} {bd out bd' out' : List ℕ} {r : Progress} (text : List ℕ) (o : Step) → Put most_text p.at text out out' r.at
-    → record { text = text; standing = standing r bd'; more = r.more } ≡ o → StepMeets (basin_of f) (standing p bd) part o → possible (basin_of f) bd' ≡ true → r.months ≤ p.months + length part → Stepped f part p bd out bd' out' r
-told-as {f} {part} {p} {bd} text o put e meets can counted = record { text = text; put = put; meets = subst (StepMeets (basin_of f) (standing p bd) part) (sym e) meets; can = can; counted = counted }
+told-as : {part : List ℕ} {l l' : Listing} (text : List ℕ) (o : Step) → InOrder l → Put most_text text l.text l'.text → record { text = text; standing = standing l'; more = l'.more } ≡ o
+    → StepMeets (basin_of l.file.now) (standing l) part o → possible (basin_of l.file.now) l'.board.now ≡ true → l'.months ≤ l.months + length part → Kept l l' → Stepped part l l'
+told-as {part} {l} text o i put e meets can counted kept =
+    record { added = text; put = put; meets = subst (StepMeets (basin_of l.file.now) (standing l) part) (sym e) meets; in_order = ordered i kept can; counted = counted; kept = kept }
 
-module _ (f : List ℕ) (bs : Bodies) (e : BodiesOf f bs)
-    (part : List ℕ) (p : Progress) (bd rp out : List ℕ) (can : CanStep f p bd rp out) where
-  b : Basin
-  b = basin_of f
+-- a refusal with which a step ends, where the board was possible
+refused-as : {part : List ℕ} {l l₁ l' : Listing} (a : Answer) → InOrder l → StepMeets (basin_of l.file.now) (standing l) part (record { text = refusal_line a; standing = standing l; more = false })
+    → l₁.text ≡ l.text → l₁.months ≡ l.months → l₁.board.now ≡ l.board.now → Kept l l₁ → Refused a l₁ l' → Stepped part l l'
+refused-as {part} {l} {l₁} {l'} a i meets et em eb k q =
+    told-as (refusal_line a) (record { text = refusal_line a; standing = standing l; more = false }) i (rw et at q.put)
+    (λ z. record { text = refusal_line a; standing = record { months = (q.months ∙ em) z; board = (q.board ∙ eb) z }; more = q.more z })
+    meets (rw (q.board, eb) i.can) (omega (arith, q.months, em)) (kept-then k q.kept)
 
-  same : basin_in bs ≡ basin_of f
-  same = basin-same f bs e
+-- ---- a whole sheet
 
-  acc : Accepted (basin_of f)
-  acc = accepted-facts f can.in_order.accepted
+module _ (l : Listing) (can : CanStep l) (bs : Bodies) (e : BodiesOf l.file.now bs) where
+  abbrev b : Basin
+  b = basin_of l.file.now
 
-  module _ (whole : length part ≡ sheet_bytes (basin_of f)) (n : ℕ) (long : n ≡ rows (basin_of f)) (runoff : List ℕ) (decoded : runoff ≡ sheet_of n part) where
-    sheet-is : runoff ≡ sheet_of (rows (basin_of f)) part
+  same : basin_in bs ≡ b
+  same = basin-same l.file.now bs e
+
+  acc : Accepted b
+  acc = accepted-facts l.file.now can.in_order.accepted
+
+  module _ (part : List ℕ) (whole : length part ≡ sheet_bytes (basin_of l.file.now)) (n : ℕ) (long : n ≡ rows (basin_of l.file.now)) (runoff : List ℕ) (decoded : runoff ≡ sheet_of n part) where
+    sheet-is : runoff ≡ sheet_of (rows b) part
     sheet-is = decoded ∙ ap (λ (k : ℕ). sheet_of k part) long
 
-    pub may-go : CanRunSheet (basin_in bs) runoff bd rp
+    pub may-go : CanRunSheet (basin_in bs) runoff l.board.now l.report.now
     may-go = record {
       accepted = subst Accepted (sym same) acc;
       sheet = ap length decoded ∙ sheet-length n part ∙ long ∙ ap rows (sym same);
       size = can.in_order.size;
-      can = ap (λ (x : Basin). possible x bd) same ∙ can.in_order.can;
-      room = subst (λ (x : Basin). report_length x ≤ length rp) (sym same) can.in_order.told;
+      can = ap (λ (x : Basin). possible x l.board.now) same ∙ can.in_order.can;
+      room = subst (λ (x : Basin). report_length x ≤ length l.report.now) (sym same) can.in_order.told;
     }
 
-    module _ (bd' rp' : List ℕ) (a : Answer) (w : SheetRan (basin_in bs) runoff bd rp (record { answer = a; board = bd'; report = rp' })) where
-      went : SheetRan (basin_of f) (sheet_of (rows (basin_of f)) part) bd rp (record { answer = a; board = bd'; report = rp' })
-      went = subst (λ (x : Basin). SheetRan x (sheet_of (rows (basin_of f)) part) bd rp (record { answer = a; board = bd'; report = rp' })) same
-          (subst (λ (x : List ℕ). SheetRan (basin_in bs) x bd rp (record { answer = a; board = bd'; report = rp' })) sheet-is w)
-
-      still : possible (basin_of f) bd' ≡ true
-      still = still-possible (basin_of f) acc (sheet_of (rows (basin_of f)) part) bd rp can.in_order.can (record { answer = a; board = bd'; report = rp' }) went
+    module _ (bd' rp' : List ℕ) (a : Answer) (w : SheetRan (basin_in bs) runoff l.board.now l.report.now (record { answer = a; board = bd'; report = rp' })) where
+      went : SheetRan b (sheet_of (rows b) part) l.board.now l.report.now (record { answer = a; board = bd'; report = rp' })
+      went = subst (λ (x : Basin). SheetRan x (sheet_of (rows b) part) l.board.now l.report.now (record { answer = a; board = bd'; report = rp' })) same
+          (subst (λ (x : List ℕ). SheetRan (basin_in bs) x l.board.now l.report.now (record { answer = a; board = bd'; report = rp' })) sheet-is w)
 
       some_bytes : 0 < length part
       some_bytes = omega (arith, whole, acc.connected.some_row)
 
-      pub sheet-refused : (a.number ≡ 0 → ⊥) → (out' : List ℕ) (r : Progress) → Refused p a out out' r → Stepped f part p bd out bd' out' r
-      sheet-refused z out' r q =
-          let k = went-refused (basin_of f) (sheet_of (rows (basin_of f)) part) bd rp bd' rp' a went z in
-          told-as (refusal_line a) (record { text = refusal_line a; standing = standing p bd; more = false }) q.put
-          (λ i. record { text = refusal_line a; standing = record { months = q.months i; board = k.1 i }; more = q.more i })
-          (over-meets (basin_of f) (standing p bd) part a some_bytes whole k.0) still (omega (arith, q.months))
+      pub sheet-refused : (a.number ≡ 0 → ⊥) → (l₁ l' : Listing) → l₁.text ≡ l.text → l₁.months ≡ l.months → l₁.board.now ≡ bd' → Kept l l₁ → Refused a l₁ l' → Stepped part l l'
+      sheet-refused z l₁ l' et em eb k q =
+          let r = went-refused b (sheet_of (rows b) part) l.board.now l.report.now bd' rp' a went z in
+          refused-as a can.in_order (over-meets b (standing l) part a some_bytes whole r.0) et em (eb ∙ r.1) k q
 
       module _ (z : a.number ≡ 0) where
-        pub may-list : length bd' ≡ length bd → length rp' ≡ length rp → CanList bs bd' rp' out p.at
+        pub may-list : length bd' ≡ length l.board.now → length rp' ≡ length l.report.now → CanList bs bd' rp' l.text
         may-list es et = record {
           few = omega (arith, bodies-rights bs, here.few_rights);
           some_row = omega (arith, bodies-rows bs, here.connected.some_row);
           few_rows = omega (arith, bodies-rows bs, here.few_rows);
           few_reservoirs = omega (arith, bodies-reservoirs bs, here.few_reservoirs);
           told = omega (arith, bodies-rights bs, bodies-rows bs, bodies-reservoirs bs, may-go.room, et);
-          small = λ v h. omega (arith, losses_told (basin_in bs) here runoff bd rp (record { answer = a; board = bd'; report = rp' }) w z v (omega (arith, h, bodies-reservoirs bs)), ap (λ (x : ℕ). get_or rp' x 0) (place_of v));
-          bounded = bounded (basin_of f) acc bd' (es ∙ can.in_order.size) still;
+          small = λ v h. omega (arith, losses_told (basin_in bs) here runoff l.board.now l.report.now (record { answer = a; board = bd'; report = rp' }) w z v (omega (arith, h, bodies-reservoirs bs)), ap (λ (x : ℕ). get_or rp' x 0) (place_of v));
+          bounded = bounded b acc bd' (es ∙ can.in_order.size) (still-possible b acc (sheet_of (rows b) part) l.board.now l.report.now can.in_order.can (record { answer = a; board = bd'; report = rp' }) went);
           room = can.room;
         }
           where
@@ -97,36 +127,33 @@ module _ (f : List ℕ) (bs : Bodies) (e : BodiesOf f bs)
             place_of : (v : ℕ) → evaporation_place (right_count bs.rights.now) (rows_of bs.stations.now) v ≡ evaporation_place (length (basin_in bs).rights) (rows (basin_in bs)) v
             place_of v = omega (arith, bodies-rows bs, bodies-rights bs)
 
-        pub sheet-listed : (out' : List ℕ) (q : ℕ) → Put most_text p.at (month_text (basin_in bs) p.months rp' bd') out out' q
-            → Stepped f part p bd out bd' out' (record { months = p.months + 1; at = q; more = true })
-        sheet-listed out' q put =
-            let k = went_on (basin_of f) (sheet_of (rows (basin_of f)) part) bd rp bd' rp' a went z in
-            told-as (month_text (basin_of f) p.months rp' bd') (record { text = month_text (basin_of f) p.months rp' bd'; standing = record { months = suc p.months; board = bd' }; more = true })
-            (subst (λ (x : Basin). Put most_text p.at (month_text x p.months rp' bd') out out' q) same put)
-            (λ i. record { text = month_text (basin_of f) p.months rp' bd'; standing = record { months = add-one p.months i; board = bd' }; more = true })
-            (month-meets (basin_of f) (standing p bd) part rp rp' bd' acc.connected.some_row whole k.none_over k.report k.board) still (omega (arith, some_bytes))
+        pub sheet-listed : (l' : Listing) → l'.months ≡ l.months + 1 → l'.board.now ≡ bd' → l'.more ≡ true → Kept l l' → Put most_text (month_text (basin_in bs) l.months rp' bd') l.text l'.text → Stepped part l l'
+        sheet-listed l' em eb go kept put =
+            let k = went_on b (sheet_of (rows b) part) l.board.now l.report.now bd' rp' a went z in
+            told-as (month_text b l.months rp' bd') (record { text = month_text b l.months rp' bd'; standing = record { months = suc l.months; board = bd' }; more = true }) can.in_order
+            (subst (λ (x : Basin). Put most_text (month_text x l.months rp' bd') l.text l'.text) same put)
+            (λ i. record { text = month_text b l.months rp' bd'; standing = record { months = (em ∙ add-one l.months) i; board = eb i }; more = go i })
+            (month-meets b (standing l) part l.report.now rp' bd' acc.connected.some_row whole k.none_over k.report k.board)
+            (rw eb (still-possible b acc (sheet_of (rows b) part) l.board.now l.report.now can.in_order.can (record { answer = a; board = bd'; report = rp' }) went))
+            (omega (arith, em, some_bytes)) kept
 
 -- ---- a part that is no whole sheet
 
-module _ (f part : List ℕ) (p : Progress) (bd rp out : List ℕ) (can : CanStep f p bd rp out) where
-  facts : Accepted (basin_of f)
-  facts = accepted-facts f can.in_order.accepted
+module _ (part : List ℕ) (l : Listing) (can : CanStep l) where
+  pub few_rows : rows (basin_of l.file.now) ≤ 64
+  few_rows = (accepted-facts l.file.now can.in_order.accepted).few_rows
 
-  pub few_rows : rows (basin_of f) ≤ 64
-  few_rows = facts.few_rows
-
-  pub part-ended : length part ≡ 0 → Stepped f part p bd out bd out (record { months = p.months; at = p.at; more = false })
+  pub part-ended : length part ≡ 0 → Stepped part l (record l { more = false })
   part-ended z = record {
-    text = [];
-    put = record { put = sym (append-nil (take p.at out)); within = omega arith };
-    meets = ended-meets (basin_of f) (standing p bd) part z;
-    can = can.in_order.can;
+    added = [];
+    put = record { bytes = sym (append-nil l.text.bytes); room = omega arith; within = omega arith };
+    meets = ended-meets (basin_of l.file.now) (standing l) part z;
+    in_order = record { accepted = can.in_order.accepted; size = can.in_order.size; can = can.in_order.can; told = can.in_order.told };
     counted = omega arith;
+    kept = record { file = refl; same_board = refl; same_report = refl; board = refl; report = refl; text = refl };
   }
 
-  pub part-short : (n : ℕ) → n ≡ rows (basin_of f) → (length part ≡ 0 → ⊥) → (length part ≡ 4 * n → ⊥) → (out' : List ℕ) (r : Progress) (a : Answer) → a ≡ told Lists → Refused p a out out' r → Stepped f part p bd out bd out' r
-  part-short n e z other out' r a ea w =
-      let q : Refused p (told Lists) out out' r = subst (λ (x : Answer). Refused p x out out' r) ea w in
-      told-as (refusal_line (told Lists)) (record { text = refusal_line (told Lists); standing = standing p bd; more = false }) q.put
-      (λ i. record { text = refusal_line (told Lists); standing = record { months = q.months i; board = bd }; more = q.more i })
-      (short-meets (basin_of f) (standing p bd) part (omega (arith, z)) (λ v. other (omega (arith, v, e)))) can.in_order.can (omega (arith, q.months))
+  pub part-short : (n : ℕ) → n ≡ rows (basin_of l.file.now) → (length part ≡ 0 → ⊥) → (length part ≡ 4 * n → ⊥) → (l' : Listing) (a : Answer) → a ≡ told Lists → Refused a l l' → Stepped part l l'
+  part-short n e z other l' a ea w =
+      refused-as (told Lists) can.in_order (short-meets (basin_of l.file.now) (standing l) part (omega (arith, z)) (λ v. other (omega (arith, v, e))))
+      refl refl refl (kept_none l) (subst (λ (x : Answer). Refused x l l') ea w)

@@ -3,26 +3,38 @@ ghost use Rattle.std.specs.Prelude.{◌≤◌, ◌≡◌, length};
 ghost use Rattle.places.specs.Board.{board_length};
 ghost use Rattle.lister.specs.Lister.{Opened};
 
-use crate::Progress;
+use crate::Listing;
 use fresh::fresh;
 use lines::frame::{put_header, put_refusal};
+use lines::text::Text;
 
-pub fn open_listing(file: &[u8], board: &mut [u64], out: &mut [u8]) -> Progress
-    requires { (length board.old ≡ board_length) × (82 ≤ length out.old) }
-    ensures { Opened file.now board.old out.old board.new out.new result }
-{
-    let at = put_header(out);
-    let answer = fresh(file, board);
-    if answer.number != 0 {
-        return Progress {
+impl<'a, 't> Listing<'a, 't> {
+    // The text is put together in the list out.
+    pub fn open(
+        file: &'a [u8],
+        board: &'a mut [u64],
+        report: &'a mut [u64],
+        out: &'t mut [u8],
+    ) -> Listing<'a, 't>
+        requires { (length board.old ≡ board_length) × (82 ≤ length out.old) }
+        ensures same_board { result.board.ghost_name ≡ board.entry.ghost_name }
+        ensures same_report { result.report.ghost_name ≡ report.entry.ghost_name }
+        ensures opened { Opened file.now board.old report.old out.old result }
+    {
+        let mut text = Text::over(out);
+        put_header(&mut text);
+        let answer = fresh(file, board);
+        let more = answer.number == 0;
+        if !more {
+            put_refusal(&mut text, answer);
+        }
+        Listing {
+            file,
+            board,
+            report,
+            text,
             months: 0,
-            at: put_refusal(out, at, answer),
-            more: false,
-        };
-    }
-    Progress {
-        months: 0,
-        at: at,
-        more: true,
+            more,
+        }
     }
 }

@@ -5,17 +5,16 @@ pub mod beginning;
 pub mod blocks;
 pub mod parts;
 
-// How far a listing has come: the months listed, where its text ends in the lent list, and whether it goes on.
-#[derive(Clone, Copy)]
-pub struct Progress {
-    pub months: u64,
-    pub at: usize,
-    pub more: bool,
-}
+use lines::text::Text;
 
-// The same after a part of a block, and how many of the block's bytes are listed.
-#[derive(Clone, Copy)]
-pub struct Listed {
-    pub progress: Progress,
-    pub used: usize,
+// A listing as it is made: the basin file, the board as the last month left it, a list for the report of a month, the text so far, the months
+// listed, and whether it goes on.
+#[derive(Drop)]
+pub struct Listing<'a, 't> {
+    pub file: &'a [u8],
+    pub board: &'a mut [u64],
+    pub report: &'a mut [u64],
+    pub text: Text<'t>,
+    pub months: u64,
+    pub more: bool,
 }

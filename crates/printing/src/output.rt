@@ -1,43 +1,38 @@
 // Standard output.
-ghost use Rattle.std.specs.Prelude.{◌+◌, ◌≤◌, length};
+ghost use Rattle.std.specs.Prelude.{◌≡◌, ◌+◌, ◌≤◌, length};
 ghost use Rattle.lines.specs.Putting.{most_text};
 
 use files::reasons::fail;
 use files::send;
 use lines::month_lines::MOST_TEXT;
+use lines::text::Text;
 use std::io;
 
+// A text could not be written. The reason has been told.
+#[derive(Clone, Copy)]
+pub struct Unwritten;
+
 // Writes a text. Where it can't be written the reason goes to standard error.
-pub fn write<R: Print + Eprint>(rt: &R, text: &[u8]) -> bool {
+pub fn write<R: Print + Eprint>(rt: &R, text: &[u8]) -> Result<(), Unwritten> {
     match send(&mut io::writer(rt), text) {
-        Ok(()) => true,
+        Ok(()) => Ok(()),
         Err(e) => {
             fail(rt, b"standard output", e);
-            false
+            Err(Unwritten)
         }
     }
 }
 
-// Where the next text goes, and whether all that had to be written was.
-#[derive(Drop)]
-pub struct Room {
-    pub at: usize,
-    pub written: bool,
-}
-
-// Room for one month more: where it might not fit, what the list holds is written.
-pub fn make_room<R: Print + Eprint>(rt: &R, at: usize, out: &[u8]) -> Room
-    requires { (at ≤ length out.now) × (most_text ≤ length out.now) }
-    ensures { result.at + most_text ≤ length out.now }
+// Room for one month more: where it might not fit, what the text holds is written, and it begins again.
+pub fn make_room<R: Print + Eprint>(rt: &R, text: &mut Text) -> Result<(), Unwritten>
+    requires { most_text ≤ length text.old.bytes + text.old.room }
+    ensures room { most_text ≤ text.new.room }
+    ensures list { length text.new.bytes + text.new.room ≡ length text.old.bytes + text.old.room }
 {
-    if MOST_TEXT <= out.len() - at {
-        return Room {
-            at: at,
-            written: true,
-        };
+    if MOST_TEXT <= text.room() {
+        return Ok(());
     }
-    Room {
-        at: 0,
-        written: write(rt, &out[..at]),
-    }
+    let written = write(rt, text.bytes());
+    text.clear();
+    written
 }

@@ -11,6 +11,7 @@ use Rattle.rules.specs.Answers.{Answer}
 use Rattle.filecheck.proofs.Accepted.{accepted-facts}
 use Rattle.answers.specs.Answers.{settled}
 use Rattle.lines.specs.Putting.{most_text}
+use Rattle.lister.specs.declared.Listing.{Listing}
 use Rattle.lister.specs.Lister.{CanListBlock}
 use Rattle.stock.specs.declared.Sums.{Sums}
 use Rattle.stock.specs.Stock.{Stock, stock_refusal, stock_settled, stock_of, stock_told}
@@ -25,24 +26,24 @@ unfolding stock_settled settled
 settled-answer None f bd = refl
 settled-answer (Some a) f bd = refl
 
-module _ (f bd : List ℕ) (s : Sums) (told : stock_told s ≡ stock_of f bd) (good : s.number ≡ 0) where
-  judged : Clear f bd
+-- a listing on a file and a board
+module _ (l : Listing) (s : Sums) (told : stock_told s ≡ stock_of l.file.now l.board.now) (good : s.number ≡ 0) where
+  judged : Clear l.file.now l.board.now
   unfolding stock_of
-  judged = stock-clear f bd (answer (stock_told s)) (ap answer told ∙ settled-answer (stock_refusal f bd) f bd) good
+  judged = stock-clear l.file.now l.board.now (answer (stock_told s)) (ap answer told ∙ settled-answer (stock_refusal l.file.now l.board.now) l.file.now l.board.now) good
 
-  pub can-list : (sheets : List ℕ) (first : ℕ) (rp text : List ℕ) → length sheets < 9_223_372_036_854_775_808 → first < 4_294_967_296 → length rp ≡ most_report → most_text ≤ length text
-      → CanListBlock f sheets (record { months = first; at = 0; more = true }) bd rp text
-  can-list sheets first rp text few early long room = record {
+  pub can-list : (sheets : List ℕ) → length sheets < 9_223_372_036_854_775_808 → l.months < 4_294_967_296 → l.more ≡ true → length l.report.now ≡ most_report → most_text ≤ l.text.room → CanListBlock sheets l
+  can-list sheets few early going long room = record {
     step = record {
       in_order = record {
         accepted = judged.file-ok;
         size = judged.size;
         can = judged.board-ok;
-        told = let a = accepted-facts f judged.file-ok in omega (arith, long, a.few_rows, a.few_rights, a.few_reservoirs);
+        told = let a = accepted-facts l.file.now judged.file-ok in omega (arith, long, a.few_rows, a.few_rights, a.few_reservoirs);
       };
-      room = omega (arith, room);
+      room = room;
       counted = omega (arith, early);
     };
-    going = refl;
+    going = going;
     counted = omega (arith, few, early);
   }

@@ -6,7 +6,7 @@ use crate::listed::{list_months, print_months};
 use crate::saying::{say_compared, say_recall, say_save};
 use files::FILE_ROOM;
 use fresh::fresh;
-use lister::beginning::open_listing;
+use lister::Listing;
 use places::board::BOARD_LENGTH;
 use printing::output::write;
 use std::io;
@@ -15,11 +15,11 @@ use std::io;
 const MARCH: u32 = 5;
 
 // The header, and the fresh board.
-fn begin<R: Print + Eprint>(rt: &R, file: &[u8], board: &mut [u64], text: &mut [u8])
-    requires { (length board.old ≡ board_length) × (82 ≤ length text.old) }
+fn begin<R: Print + Eprint>(rt: &R, file: &[u8], board: &mut [u64], out: &mut [u8])
+    requires { (length board.old ≡ board_length) × (82 ≤ length out.old) }
 {
-    let at = open_listing(file, board, text).at;
-    write(rt, &text[..at]);
+    let listing = Listing::open(file, board, &mut [], out);
+    let _ = write(rt, listing.text.bytes());
 }
 
 // What the dry spring leaves is saved too, so that it can be looked at later.
@@ -29,22 +29,20 @@ fn dry_spring<R: Print + Eprint>(
     dry: &[u8],
     store: &mut [u8],
     board: &mut [u64],
-    text: &mut [u8],
+    out: &mut [u8],
 ) -> io::Result<()> {
     say_save(rt, "save MARCH:", store, b"MARCH   ", board)?;
-    print_months(rt, file, dry, MARCH, board, text);
+    print_months(rt, file, dry, MARCH, board, out);
     say_save(rt, "save DRY:", store, b"DRY     ", board)?;
     say_recall(rt, "recall MARCH:", store, b"MARCH   ", board)
 }
 
 // The spring of a year that was run from the fresh board without any trial. The text of its winter is written over.
-fn list_untried(file: &[u8], winter: &[u8], spring: &[u8], text: &mut [u8]) -> usize
-    ensures { result ≤ length text.old }
-{
+fn list_untried<'t>(file: &[u8], winter: &[u8], spring: &[u8], out: &'t mut [u8]) -> &'t [u8] {
     let mut board = [0u64; BOARD_LENGTH];
     fresh(file, &mut board);
-    list_months(file, winter, 0, &mut board, text);
-    list_months(file, spring, MARCH, &mut board, text)
+    list_months(file, winter, 0, &mut board, &mut *out);
+    list_months(file, spring, MARCH, &mut board, out)
 }
 
 // Whether the spring that was printed is that of a year without any trial, byte for byte.
@@ -55,9 +53,9 @@ fn compare<R: Print>(
     spring: &[u8],
     printed: &[u8],
 ) -> io::Result<()> {
-    let mut text = [0; FILE_ROOM];
-    let n = list_untried(file, winter, spring, &mut text);
-    say_compared(rt, printed.len(), printed == &text[..n])
+    let mut out = [0; FILE_ROOM];
+    let untried = list_untried(file, winter, spring, &mut out);
+    say_compared(rt, printed.len(), printed == untried)
 }
 
 pub fn try_dry<R: Print + Eprint>(
@@ -71,10 +69,10 @@ pub fn try_dry<R: Print + Eprint>(
 ) -> io::Result<()>
     requires { length board.old ≡ board_length }
 {
-    let mut text = [0; FILE_ROOM];
-    begin(rt, file, board, &mut text);
-    print_months(rt, file, winter, 0, board, &mut text);
-    dry_spring(rt, file, dry, store, board, &mut text)?;
-    let n = print_months(rt, file, spring, MARCH, board, &mut text);
-    compare(rt, file, winter, spring, &text[..n])
+    let mut out = [0; FILE_ROOM];
+    begin(rt, file, board, &mut out);
+    print_months(rt, file, winter, 0, board, &mut out);
+    dry_spring(rt, file, dry, store, board, &mut out)?;
+    let printed = print_months(rt, file, spring, MARCH, board, &mut out);
+    compare(rt, file, winter, spring, printed)
 }

@@ -2,13 +2,17 @@
 use Rattle.std.specs.Prelude.{true, List, ◌≡◌, ℕ, ◌≤◌, length}
 use Rattle.records.specs.Records.{basin_of}
 use Rattle.listing.specs.Run.{sheet_bytes}
-use Rattle.lister.specs.declared.Progress.{Progress}
+use Rattle.lister.specs.declared.Listing.{Listing}
 use Rattle.printing.specs.Going.{Going}
 
--- a listing from its first month on
-pub record CanListFile (f : List ℕ) (sheet : ℕ) (block : List ℕ) (p : Progress) (board report out : List ℕ) : Type 0 where
-  pub going : Going f p.at board report out
-  pub bytes : sheet ≡ sheet_bytes (basin_of f)
-  pub more : p.more ≡ true
-  pub first : p.months ≡ 0
+-- a listing that was opened, goes on and has listed no month yet
+pub record CanListAll (l : Listing) : Type 0 where
+  pub going : Going l
+  pub more : l.more ≡ true
+  pub first : l.months ≡ 0
+
+-- with it sheets of so many bytes, and a list for a block of them
+pub record CanListFile (sheet : ℕ) (block : List ℕ) (l : Listing) : Type 0 where
+  pub all : CanListAll l
+  pub bytes : sheet ≡ sheet_bytes (basin_of l.file.now)
   pub few : length block ≤ 65_536

@@ -1,52 +1,50 @@
 -- What the program keeps from year to year. Assumes nothing.
 use mathlib.Core.Bool.{true}
 use mathlib.Core.List.{List}
-use mathlib.Core.Path.{◌≡◌, ap}
+use mathlib.Core.Path.{◌≡◌, refl, ap, ◌∙◌}
 use Prim.Native.Nat.{ℕ, ◌+◌, ◌≤◌}
 use native.Mathlib.Omega.{arith}
 use lib.ListN.{length}
-use Rattle.places.specs.Report.{most_report}
 use Rattle.records.specs.Records.{basin_of}
+use Rattle.boards.specs.Board.{possible}
 use Rattle.years.specs.Runs.{CanJudge}
-use Rattle.lines.specs.Putting.{most_text}
+use Rattle.lines.specs.Texts.{Text}
 use Rattle.listing.specs.Run.{sheet_bytes}
 use Rattle.yearly.specs.Years.{part_left}
-use Rattle.lister.specs.declared.Progress.{Progress}
+use Rattle.lister.specs.declared.Listing.{Listing}
+use Rattle.lister.specs.Lister.{Kept, InOrder}
+use Rattle.lister.proofs.Lent.{kept-then, ordered}
 use Rattle.yearly.specs.Opening.{YearOpened}
-use Rattle.yearly.proofs.Opened.{opened-months, left-most}
+use Rattle.yearly.proofs.Opened.{opened-months, opened-board, left-most}
 use Rattle.printing.specs.Going.{Going, CanRead, Went}
-use Rattle.printing.proofs.Keeping.{going-first}
-use Rattle.riveryear.specs.Going.{CanListBook, CanListYears, YearWent}
+use Rattle.riveryear.specs.Going.{CanListYears, YearWent}
 
-module _ (f book : List ℕ) (y : ℕ) (p : Progress) (bd rp out : List ℕ) (c : CanListYears f 1 p bd rp out) (at : ℕ) (room : at + most_text ≤ length out)
-    (out' : List ℕ) (eo : length out' ≡ length out) (r : Progress) (w : YearOpened f book y (record { months = p.months; at = at; more = true }) bd out out' r) where
-  judged : CanJudge f bd
-  judged = record { accepted = c.going.in_order.accepted; size = c.going.in_order.size; can = c.going.in_order.can }
+-- a year is opened after room was made in the text
+module _ {book : List ℕ} {y : ℕ} {l l₂ : Listing} {t : Text} (c : CanListYears 1 l) (list : length t.bytes + t.room ≡ length l.text.bytes + l.text.room) (w : YearOpened book y (record l { text = t }) l₂) where
+  kept : Kept l l₂
+  kept = kept-then (record { file = refl; same_board = refl; same_report = refl; board = refl; report = refl; text = list }) w.kept
 
-  going : Going f r.at bd rp out'
-  going = record { in_order = c.going.in_order; room = omega (arith, c.going.room, eo); within = omega (arith, w.put.within, room, eo) }
+  in_order : InOrder l₂
+  in_order = ordered c.going.in_order kept (ap (λ (b : List ℕ). possible (basin_of l.file.now) b) (opened-board w) ∙ c.going.in_order.can)
 
-  same-months : r.months ≡ p.months
-  same-months = opened-months f book y (record { months = p.months; at = at; more = true }) bd out out' r w
+  going : Going l₂
+  going = record { in_order = in_order; room = omega (arith, c.going.room, kept.text) }
 
-  pub year-ended : YearWent f p bd rp out' r
-  year-ended = record { going = going; counted = omega (arith, same-months) }
+  same-months : l₂.months ≡ l.months
+  same-months = opened-months w
 
-  module _ (part : List ℕ) (ep : part ≡ part_left f book y bd) where
+  pub year-ended : YearWent l l₂
+  year-ended = record { going = going; counted = omega (arith, same-months); kept = kept }
+
+  pub judged : CanJudge l₂.file.now l₂.board.now
+  judged = record { accepted = in_order.accepted; size = in_order.size; can = in_order.can }
+
+  module _ (part : List ℕ) (ep : part ≡ part_left l₂.file.now book y l₂.board.now) where
     few : length part ≤ 3072
-    few = omega (arith, ap length ep, left-most f book y bd judged)
+    few = omega (arith, ap length ep, left-most l₂.file.now book y l₂.board.now judged)
 
-    pub can-read : (size : ℕ) → size ≡ sheet_bytes (basin_of f) → r.more ≡ true → CanRead f size part r bd rp out'
+    pub can-read : (size : ℕ) → size ≡ sheet_bytes (basin_of l₂.file.now) → l₂.more ≡ true → CanRead size part l₂
     can-read size e more = record { going = going; bytes = e; more = more; counted = omega (arith, same-months, few, c.counted) }
 
-    pub year-went : (bd' rp' out'' : List ℕ) (q : Progress) → Went f part r bd' rp' out'' q → YearWent f p bd' rp' out'' q
-    year-went bd' rp' out'' q v = record { going = v.going; counted = omega (arith, v.counted, same-months, few) }
-
--- ---- year after year
-
-pub can-begin : (f : List ℕ) (years : ℕ) (p : Progress) (bd rp out : List ℕ) → CanListBook f years p bd out → length rp ≡ most_report → CanListYears f years p bd rp out
-can-begin f years p bd rp out c told = record {
-  going = going-first f c.accepted p.at bd rp out c.size c.can told c.room c.within;
-  more = c.more;
-  counted = omega (arith, c.first, c.few);
-}
+    pub year-went : (l₃ : Listing) → Went part l₂ l₃ → YearWent l l₃
+    year-went l₃ v = record { going = v.going; counted = omega (arith, v.counted, same-months, few); kept = kept-then kept v.kept }

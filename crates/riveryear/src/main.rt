@@ -7,11 +7,10 @@ ghost use Rattle.riveryear.specs.Going.{most_asked, CanListBook};
 
 use files::words::{WORD_ROOM, word, word_count};
 use files::{FILE_ROOM, read_whole};
-use lister::Progress;
-use lister::beginning::open_listing;
+use lister::Listing;
 use places::board::BOARD_LENGTH;
 use places::report::MOST_REPORT;
-use printing::output::write;
+use printing::output::{Unwritten, write};
 use std::rt::{Env, Files};
 
 mod picked;
@@ -27,49 +26,38 @@ fn years_asked<R: Env>(rt: &R) -> usize
     word_count(rt).saturating_sub(3).min(MOST_ASKED)
 }
 
-// The years of the book, and then what is left to be written. Answers whether all was. The buffer is longer than any book that keeps the
-// layout, so a book that is cut here is refused as the whole would be.
+// The years of the book, and then what is left to be written. The buffer is longer than any book that keeps the layout, so a book that is cut
+// here is refused as the whole would be.
 fn list_book<R: Files + Env + Print + Eprint>(
     rt: &R,
     years: usize,
-    file: &[u8],
-    from: Progress,
-    board: &mut [u64],
-    out: &mut [u8],
-) -> bool
-    requires { CanListBook file.now years from board.old out.old }
+    listing: &mut Listing,
+) -> Result<(), Unwritten>
+    requires { CanListBook years listing.old }
 {
     let mut name = [0; WORD_ROOM];
     let mut space = [0; FILE_ROOM];
     let book = read_whole(rt, word(rt, 2, &mut name), &mut space);
-    let mut report = [0u64; MOST_REPORT];
-    let sent = picked::list_years(rt, file, book, years, from, board, &mut report, out);
-    if !sent.written {
-        return false;
-    }
-    let at = sent.progress.at;
-    write(rt, &out[..at])
+    picked::list_years(rt, book, years, listing)?;
+    write(rt, listing.text.bytes())
 }
 
-// The listing of a basin. Answers whether it could be written. The book is opened only where a year is asked for and the basin is accepted.
-fn list<R: Files + Env + Print + Eprint>(rt: &R, file: &[u8]) -> bool {
+// The listing of a basin. The book is opened only where a year is asked for and the basin is accepted.
+fn list<R: Files + Env + Print + Eprint>(rt: &R, file: &[u8]) -> Result<(), Unwritten> {
     let mut board = [0u64; BOARD_LENGTH];
+    let mut report = [0u64; MOST_REPORT];
     let mut out = [0; FILE_ROOM];
-    let opened = open_listing(file, &mut board, &mut out);
-    let at = opened.at;
-    if !opened.more {
-        return write(rt, &out[..at]);
-    }
+    let mut listing = Listing::open(file, &mut board, &mut report, &mut out);
     let years = years_asked(rt);
-    if years == 0 {
-        return write(rt, &out[..at]);
+    if !listing.more || years == 0 {
+        return write(rt, listing.text.bytes());
     }
-    list_book(rt, years, file, opened, &mut board, &mut out)
+    list_book(rt, years, &mut listing)
 }
 
 // The buffer is longer than any basin file that keeps the layout, so a file that is cut here is refused as the whole would be.
 fn main(rt: HostRuntime) {
     let mut name = [0; WORD_ROOM];
     let mut space = [0; FILE_ROOM];
-    list(&rt, read_whole(&rt, word(&rt, 1, &mut name), &mut space));
+    let _ = list(&rt, read_whole(&rt, word(&rt, 1, &mut name), &mut space));
 }

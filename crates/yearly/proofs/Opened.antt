@@ -27,50 +27,61 @@ use Rattle.years.proofs.Numbered.{run-numbered}
 use Rattle.listing.specs.Listing.{refusal_line}
 use Rattle.listing.specs.Run.{sheet_bytes, Standing, Step}
 use Rattle.yearly.specs.Years.{least_list, year_refusal, part_left}
-use Rattle.lister.specs.declared.Progress.{Progress}
+use Rattle.lister.specs.declared.Listing.{Listing}
 use Rattle.lister.specs.Lister.{standing, Refused}
+use Rattle.lister.proofs.Lent.{kept_none}
 use Rattle.yearly.specs.Opening.{year_opening, YearOpened}
 
 -- ---- the start of a year
 
-module _ (f book : List ℕ) (y : ℕ) (p : Progress) (board out : List ℕ) where
+module _ (book : List ℕ) (y : ℕ) (l : Listing) where
   -- the list that the definition lends is long enough
-  long-enough : room_for_year (basin_of f) (length (least_list (basin_of f))) ≡ true
+  long-enough : room_for_year (basin_of l.file.now) (length (least_list (basin_of l.file.now))) ≡ true
   unfolding room_for_year
-  long-enough = leb_yes (12 * report_length (basin_of f)) (length (least_list (basin_of f))) (omega (arith, length-replicate {A = ℕ} (12 * report_length (basin_of f)) 0))
+  long-enough = leb_yes (12 * report_length (basin_of l.file.now)) (length (least_list (basin_of l.file.now))) (omega (arith, length-replicate {A = ℕ} (12 * report_length (basin_of l.file.now)) 0))
 
-  module _ (a : Answer) (judged : (old : List ℕ) → room_for_year (basin_of f) (length old) ≡ true → a ≡ settled (run_refusal f book y board old)) where
-    here : a ≡ settled (year_refusal f book (standing p board) y)
-    here = judged (least_list (basin_of f)) long-enough
+  module _ (a : Answer) (judged : (old : List ℕ) → room_for_year (basin_of l.file.now) (length old) ≡ true → a ≡ settled (run_refusal l.file.now book y l.board.now old)) where
+    here : a ≡ settled (year_refusal l.file.now book (standing l) y)
+    here = judged (least_list (basin_of l.file.now)) long-enough
 
-    pub year-refused : (a.number ≡ 0 → ⊥) → (out' : List ℕ) (r : Progress) → Refused p a out out' r → YearOpened f book y p board out out' r
+    pub year-refused : (a.number ≡ 0 → ⊥) → (l' : Listing) → Refused a l l' → YearOpened book y l l'
     unfolding year_opening
-    year-refused n out' r w = record {
-      text = refusal_line a;
+    year-refused n l' w = record {
+      added = refusal_line a;
       put = w.put;
       equation =
-          (λ z. record { text = refusal_line a; standing = record { months = w.months z; board = board }; more = w.more z })
-          ∙ sym (ap (λ (v : Option Answer). year_opening v (standing p board)) (settled-some (year_refusal f book (standing p board) y) a here n));
+          (λ z. record { text = refusal_line a; standing = record { months = w.months z; board = w.board z }; more = w.more z })
+          ∙ sym (ap (λ (v : Option Answer). year_opening v (standing l)) (settled-some (year_refusal l.file.now book (standing l) y) a here n));
+      kept = w.kept;
     }
 
-    pub year-accepted : a.number ≡ 0 → p.more ≡ true → YearOpened f book y p board out out p
+    pub year-accepted : a.number ≡ 0 → l.more ≡ true → YearOpened book y l l
     unfolding year_opening
     year-accepted n more = record {
-      text = [];
-      put = record { put = sym (append-nil (take p.at out)); within = omega arith };
+      added = [];
+      put = record { bytes = sym (append-nil l.text.bytes); room = omega arith; within = omega arith };
       equation =
-          (λ z. record { text = []; standing = standing p board; more = more z })
-          ∙ sym (ap (λ (v : Option Answer). year_opening v (standing p board)) (clear_none (year_refusal f book (standing p board) y) (run-numbered f book y board (least_list (basin_of f))) a here n));
+          (λ z. record { text = []; standing = standing l; more = more z })
+          ∙ sym (ap (λ (v : Option Answer). year_opening v (standing l)) (clear_none (year_refusal l.file.now book (standing l) y) (run-numbered l.file.now book y l.board.now (least_list (basin_of l.file.now))) a here n));
+      kept = kept_none l;
     }
 
--- no month is listed by it
+-- no month is listed by it, and the board is as it was
 opening-months : (v : Option Answer) (s : Standing) → (year_opening v s).standing.months ≡ s.months
 unfolding year_opening
 opening-months None s = refl
 opening-months (Some a) s = refl
 
-pub opened-months : (f book : List ℕ) (y : ℕ) (p : Progress) (board out out' : List ℕ) (r : Progress) → YearOpened f book y p board out out' r → r.months ≡ p.months
-opened-months f book y p board out out' r w = ap (λ (x : Step). x.standing.months) w.equation ∙ opening-months (year_refusal f book (standing p board) y) (standing p board)
+opening-board : (v : Option Answer) (s : Standing) → (year_opening v s).standing.board ≡ s.board
+unfolding year_opening
+opening-board None s = refl
+opening-board (Some a) s = refl
+
+pub opened-months : {book : List ℕ} {y : ℕ} {l l' : Listing} → YearOpened book y l l' → l'.months ≡ l.months
+opened-months {book} {y} {l} w = ap (λ (x : Step). x.standing.months) w.equation ∙ opening-months (year_refusal l.file.now book (standing l) y) (standing l)
+
+pub opened-board : {book : List ℕ} {y : ℕ} {l l' : Listing} → YearOpened book y l l' → l'.board.now ≡ l.board.now
+opened-board {book} {y} {l} w = ap (λ (x : Step). x.standing.board) w.equation ∙ opening-board (year_refusal l.file.now book (standing l) y) (standing l)
 
 -- ---- the sheets of a year
 

@@ -8,29 +8,21 @@ ghost use Rattle.yearly.specs.Opening.{CanOpenYear, YearOpened};
 
 use book::find::year_part;
 use closing::in_year;
-use lister::Progress;
+use lister::Listing;
 use lister::blocks::sheet_size;
-use lister::parts::refuse;
 use places::board::MONTH;
 use years::run::judge_year;
 
 // A year is judged as a whole before its first month is listed, since a run that is refused makes no month.
-pub fn open_year(
-    file: &[u8],
-    book: &[u8],
-    year: u32,
-    from: Progress,
-    board: &[u64],
-    out: &mut [u8],
-) -> Progress
-    requires { CanOpenYear file.now from board.now out.old }
-    ensures { YearOpened file.now book.now year from board.now out.old out.new result }
+pub fn open_year(listing: &mut Listing, book: &[u8], year: u32)
+    requires { CanOpenYear listing.old }
+    ensures { YearOpened book.now year listing.old listing.new }
 {
-    let answer = judge_year(file, book, year, board);
+    let board = &mut *listing.board;
+    let answer = judge_year(listing.file, book, year, board);
     if answer.number != 0 {
-        return refuse(out, from, answer);
+        listing.refuse(answer);
     }
-    from
 }
 
 // The sheets of a year from the board's month on, where they stand in the book; nothing where the look-up of the year is refused.

@@ -10,11 +10,7 @@ pub refuse-requires : goal.refuse-requires
 refuse-requires c = c.requires.room
 
 pub returns-then-answer-ne0 : goal.returns-then-answer-ne0
-returns-then-answer-ne0 c =
-    let s = c.args in
-    year-refused s.file.now s.book.now s.year s.from s.board.now s.out.now _ c.judge_year-answer.ensures (λ z. omega (arith, z, c.if-answer-ne0.true)) _ _ c.refuse.ensures
+returns-then-answer-ne0 c = year-refused c.args.book.now c.args.year c.args.listing.now _ c.judge_year-answer.ensures (λ z. omega (arith, z, c.if-answer-ne0.true)) _ c.refuse.ensures
 
-pub returns : goal.returns
-returns c =
-    let s = c.args in
-    year-accepted s.file.now s.book.now s.year s.from s.board.now s.out.now _ c.judge_year-answer.ensures (omega arith) c.requires.going
+pub returns-else-answer-ne0 : goal.returns-else-answer-ne0
+returns-else-answer-ne0 c = year-accepted c.args.book.now c.args.year c.args.listing.now _ c.judge_year-answer.ensures (omega arith) c.requires.going

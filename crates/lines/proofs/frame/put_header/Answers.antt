@@ -4,4 +4,4 @@ use Rattle.lines.proofs.frame.put_header.Goals as goal
 
 pub returns : goal.returns
 unfolding header
-returns c = c.put_bytes.ensures
+returns c = c.push.ensures

@@ -1,8 +1,8 @@
--- `lines::frame::put_refusal` meets its contract: the word and two fields. Assumes nothing.
-use Rattle.lines.proofs.Texts.{refusal-put}
+-- `lines::frame::put_refusal` meets its contract: the word and two numbers. Assumes nothing.
+use Rattle.listing.specs.Listing.{space, refused_word, refusal_line}
+use Rattle.lines.proofs.Texts.{word-then}
 use Rattle.lines.proofs.frame.put_refusal.Goals as goal
 
 pub returns : goal.returns
-returns c =
-    let s = c.args in
-    refusal-put s.answer.number s.answer.place c.put_bytes-second.ensures c.put_field-third.ensures c.put_field.ensures
+unfolding refusal_line
+returns c = word-then refused_word space c.push.ensures c.line.ensures

@@ -1,8 +1,8 @@
 -- `lines::month_lines::put_end` meets its contract. Assumes nothing.
-use Rattle.lines.proofs.Texts.{end-line-put}
+use Rattle.listing.specs.Listing.{end_line}
+use Rattle.lines.proofs.Texts.{put_then}
 use Rattle.lines.proofs.month_lines.put_end.Goals as goal
 
 pub returns : goal.returns
-returns c =
-    let s = c.args in
-    end-line-put s.month s.outflow s.evaporation s.storage s.pending c.put_field-second.ensures c.put_end_word-third.ensures c.put_four.ensures
+unfolding end_line
+returns c = put_then c.number.ensures (put_then c.push.ensures c.line.ensures)

@@ -1,9 +1,9 @@
--- `lines::month_lines::put_right` meets its contract: two fields and the last four numbers. Assumes nothing.
+-- `lines::month_lines::put_right` meets its contract: the month, the permit as it was read, and the right's numbers of the report. Assumes nothing.
 use mathlib.Core.Path.{◌∙◌}
-use Rattle.lines.proofs.Texts.{right-put}
+use Rattle.listing.specs.Listing.{right_line}
+use Rattle.records.specs.Records.{right_of, right_record}
 use Rattle.lines.proofs.month_lines.put_right.Goals as goal
 
 pub returns : goal.returns
-returns c =
-    let s = c.args in
-    right-put s.month s.rights.now s.report.now s.i _ (c.wide32.ensures.0 ∙ c.le32.ensures) c.put_field-second.ensures c.put_field-third.ensures (rw c.line_place-line.ensures at c.put_four.ensures)
+unfolding right_line right_of right_record
+returns c = rw (c.wide32.ensures.0 ∙ c.le32.ensures, c.line_place-line.ensures) at c.line.ensures

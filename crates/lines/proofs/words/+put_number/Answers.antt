@@ -4,7 +4,7 @@ use Prim.Native.Nat.{◌/◌, ◌%◌}
 use native.Mathlib.Omega.{arith}
 use borrow.Author.Rules.{rules}
 use Rattle.lines.proofs.Decimals.{more-long, four-long}
-use Rattle.lines.proofs.Texts.{put-more, put-four-more}
+use Rattle.lines.proofs.Digits.{put-more, put-four-more}
 use Rattle.lines.proofs.words.+put_number.Goals as goal
 
 pub put_small-requires : goal.put_small-requires

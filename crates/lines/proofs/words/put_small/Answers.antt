@@ -1,7 +1,7 @@
 -- `lines::words::put_small` meets its contract, for one digit and for two. Assumes nothing.
 use native.Mathlib.Omega.{arith}
 use Rattle.lines.proofs.Decimals.{one-long, two-long}
-use Rattle.lines.proofs.Texts.{put_one, put_two}
+use Rattle.lines.proofs.Digits.{put_one, put_two}
 use Rattle.lines.proofs.words.put_small.Goals as goal
 
 pub bounds-out-at : goal.bounds-out-at

@@ -1,10 +1,10 @@
--- The block is listed up to `done`.
-use Rattle.std.proofs.Common.{◌≡◌, ◌-◌, length}
-use Rattle.printing.proofs.Keeping.{Kept}
+-- The block is listed up to `rest`. A call that lists nothing is the last.
+use Rattle.std.proofs.Common.{◌+◌, length, cond}
+use Rattle.printing.proofs.Keeping.{Listed}
 use Rattle.printing.proofs.blocks.list_read.Given as goal
 
-abbrev pub invariant-loop-p : goal.invariant-loop-p
-invariant-loop-p g l = (l.n ≡ length l.block) × Kept l.file l.block l.fn.from l.board l.report l.out l.p l.done
+abbrev pub invariant-loop-listing : goal.invariant-loop-listing
+invariant-loop-listing g l = Listed l.block l.rest l.fn.listing l.listing
 
-abbrev pub decreases-loop-p : goal.decreases-loop-p
-decreases-loop-p g l = l.n - l.done
+abbrev pub decreases-loop-listing : goal.decreases-loop-listing
+decreases-loop-listing g l = length l.rest + cond l.listing.more 1 0

@@ -4,4 +4,4 @@ use Rattle.riveryear.specs.Going.{CanListYears}
 use Rattle.riveryear.proofs.picked.list_years.Given as goal
 
 abbrev pub invariant-loop-k : goal.invariant-loop-k
-invariant-loop-k g l = CanListYears l.file (l.years - l.k) l.p l.board l.report l.out
+invariant-loop-k g l = CanListYears (l.years - l.k) l.listing
