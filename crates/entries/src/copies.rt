@@ -22,24 +22,13 @@ fn board_start(entry: usize) -> usize
     ENTRIES * NAME_LENGTH + BOARD_BYTES * entry
 }
 
-fn numbers_of(board: &[u64]) -> [u64; BOARD_LENGTH]
-    requires { length board.now ≡ board_length }
-    ensures { result ≡ board.now }
-{
-    let mut numbers = [0; BOARD_LENGTH];
-    for k in 0..BOARD_LENGTH {
-        numbers[k] = board[k];
-    }
-    numbers
-}
-
 fn put_numbers(store: &mut [u8], entry: usize, numbers: [u64; BOARD_LENGTH])
     requires { (length store.old ≡ store_length) × (entry < entry_count) }
     ensures { store.new ≡ over store.old (board_start entry) (bytes_of numbers) }
 {
     let start = board_start(entry);
-    for k in 0..BOARD_LENGTH {
-        put64(store, start + 8 * k, numbers[k]);
+    for (k, number) in numbers.iter().enumerate() {
+        put64(store, start + 8 * k, *number);
     }
 }
 
@@ -47,7 +36,7 @@ pub fn write_board(store: &mut [u8], entry: usize, board: &[u64])
     requires { (length store.old ≡ store_length) × (entry < entry_count) × (length board.now ≡ board_length) }
     ensures { store.new ≡ over store.old (board_start entry) (bytes_of board.now) }
 {
-    put_numbers(store, entry, numbers_of(board));
+    put_numbers(store, entry, board.try_into().unwrap());
 }
 
 fn numbers_at(store: &[u8], entry: usize) -> [u64; BOARD_LENGTH]
@@ -56,24 +45,15 @@ fn numbers_at(store: &[u8], entry: usize) -> [u64; BOARD_LENGTH]
 {
     let start = board_start(entry);
     let mut numbers = [0; BOARD_LENGTH];
-    for k in 0..BOARD_LENGTH {
-        numbers[k] = le64(store, start + 8 * k);
+    for (k, number) in numbers.iter_mut().enumerate() {
+        *number = le64(store, start + 8 * k);
     }
     numbers
-}
-
-fn put_board(board: &mut [u64], numbers: [u64; BOARD_LENGTH])
-    requires { length board.old ≡ board_length }
-    ensures { board.new ≡ numbers }
-{
-    for k in 0..BOARD_LENGTH {
-        board[k] = numbers[k];
-    }
 }
 
 pub fn read_board(store: &[u8], entry: usize, board: &mut [u64])
     requires { (length store.now ≡ store_length) × (entry < entry_count) × (length board.old ≡ board_length) }
     ensures { board.new ≡ board_at store.now entry }
 {
-    put_board(board, numbers_at(store, entry));
+    board.copy_from_slice(&numbers_at(store, entry));
 }

@@ -3,7 +3,7 @@ ghost use Rattle.std.specs.Prelude.{◌≡◌, ◌<◌, length};
 ghost use Rattle.general.specs.Parts.{over};
 ghost use Rattle.entries.specs.Entries.{entry_count, name_length, name_start, store_length, same_name, is_named, first_named, place_for};
 
-use numbers::both;
+use numbers::all_below;
 
 pub const ENTRIES: usize = 4;
 
@@ -14,21 +14,16 @@ pub fn fixed(name: &[u8]) -> [u8; 8]
     requires { length name.now ≡ name_length }
     ensures { result ≡ name.now }
 {
-    [
-        name[0], name[1], name[2], name[3], name[4], name[5], name[6], name[7],
-    ]
+    name.try_into().unwrap()
 }
 
-// Whether eight bytes are the name.
+// Whether eight bytes are the name. All are looked at, so that the compiler compares them as one number; `==` leaves at the first that differs
+// and takes twice as long.
 pub fn same_name(part: &[u8], name: [u8; 8]) -> bool
     requires { length part.now ≡ name_length }
     ensures { result ≡ same_name part.now name }
 {
-    let mut all = true;
-    for j in 0..NAME_LENGTH {
-        all = both(all, part[j] == name[j]);
-    }
-    all
+    all_below(NAME_LENGTH, |j| part[j] == name[j])
 }
 
 // Whether the entry bears the name.
@@ -46,12 +41,7 @@ pub fn find(store: &[u8], name: [u8; 8]) -> Option<usize>
     requires { length store.now ≡ store_length }
     ensures { result ≡ first_named store.now name }
 {
-    for entry in 0..ENTRIES {
-        if is_named(store, entry, name) {
-            return Some(entry);
-        }
-    }
-    None
+    (0..ENTRIES).find(|&entry| is_named(store, entry, name))
 }
 
 // The entry that a save writes: the first with the name, else the first empty one.
@@ -59,10 +49,7 @@ pub fn place_for(store: &[u8], name: [u8; 8]) -> Option<usize>
     requires { length store.now ≡ store_length }
     ensures { result ≡ place_for store.now name }
 {
-    let Some(entry) = find(store, name) else {
-        return find(store, [0; 8]);
-    };
-    Some(entry)
+    find(store, name).or_else(|| find(store, [0; 8]))
 }
 
 pub fn write_name(store: &mut [u8], entry: usize, name: [u8; 8])
@@ -70,7 +57,5 @@ pub fn write_name(store: &mut [u8], entry: usize, name: [u8; 8])
     ensures { store.new ≡ over store.old (name_start entry) name }
 {
     let start = NAME_LENGTH * entry;
-    for j in 0..NAME_LENGTH {
-        store[start + j] = name[j];
-    }
+    store[start..start + NAME_LENGTH].copy_from_slice(&name);
 }

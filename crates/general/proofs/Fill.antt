@@ -4,10 +4,11 @@ use mathlib.Core.List.{List, ◌++◌, append_assoc, append-nil}
 use Prim.Native.Nat.{ℕ, suc, ◌+◌, ◌-◌, ◌≤◌, ◌<◌}
 use native.Mathlib.Numerals.{add-one}
 use native.Mathlib.Omega.{arith}
-use lib.ListN.{set, replicate}
+use lib.ListN.{length, get_or, drop, set, replicate}
+use Rattle.std.proofs.lemmas.List.{drop-replicate}
 use lib.Seq.{set_at}
 use Rattle.general.specs.Tables.{tab}
-use Rattle.general.proofs.Tables.{tab-length}
+use Rattle.general.proofs.Tables.{tab-length, tab-filled}
 
 -- k of n places filled by the rule f, the others still z
 abbrev pub filled : {A : Type 0} → (ℕ → A) → A → ℕ → ℕ → List A
@@ -29,3 +30,7 @@ module _ {A : Type 0} (f : ℕ → A) (z : A) where
       let e : n ≡ k = omega arith in
       let d : n - k ≡ 0 = omega arith in
       (rw d at el) ∙ append-nil (tab k f) ∙ ap (λ (j : ℕ). tab j f) (sym e)
+
+  -- a loop over the first k of n places
+  pub fill_front : (d : A) (n k : ℕ) (l : List A) → length l ≡ k → ((j : ℕ) → j < k → get_or l j d ≡ f j) → l ++ drop k (replicate n z) ≡ filled f z n k
+  fill_front d n k l e h = λ t. tab-filled f l k d e h t ++ drop-replicate k n z t

@@ -1,9 +1,10 @@
 -- Laws of a list with a part written over. Assumes nothing.
 use mathlib.Core.Path.{◌≡◌, sym, ap, ◌∙◌}
-use mathlib.Core.List.{List, [], ◌∷◌, ◌++◌, append_assoc}
-use Prim.Native.Nat.{ℕ, suc, ◌+◌, ◌-◌, ◌≤◌, ◌<◌}
+use mathlib.Core.List.{List, [], ◌++◌, append_assoc}
+use Prim.Native.Nat.{ℕ, ◌+◌, ◌-◌, ◌≤◌, ◌<◌}
 use native.Mathlib.Numerals.{add-one}
 use native.Mathlib.Omega.{arith}
+use borrow.Rule.Slice.PartMut.{put_mid}
 use lib.ListN.{length, get_or, take, drop, set, length-append, length-drop, get_or-append}
 use lib.Seq.{length-take-le, get_or-append-add, get_or-take, get_or-drop, drop-drop, take_at, drop_at, take_all, sets-eq, paste, paste-zero, paste-suc}
 use Rattle.general.specs.Parts.{over}
@@ -63,14 +64,10 @@ pub over_none : (s : List ℕ) (at : ℕ) → at ≤ length s → s ≡ over s a
 unfolding over
 over_none s at h = sets-eq [] s at (omega arith)
 
--- four stores one after another
-pub four-stores : (s : List ℕ) (at a b c d : ℕ) → at + 4 ≤ length s → set (set (set (set s at a) (at + 1) b) (at + 2) c) (at + 3) d ≡ over s at (a ∷ b ∷ c ∷ d ∷ [])
+-- what a part of a slice leaves that is written through, the other elements being as they were
+pub put_mid-over : (s : List ℕ) (at k : ℕ) (v : List ℕ) → k ≡ length v → put_mid at k s v ≡ over s at v
 unfolding over
-four-stores s at a b c d h =
-    let e₁ : at + 1 ≡ suc at = omega arith in
-    let e₂ : at + 2 ≡ suc (suc at) = omega arith in
-    let e₃ : at + 3 ≡ suc (suc (suc at)) = omega arith in
-    rw (e₁, e₂, e₃) (sets-eq (a ∷ b ∷ c ∷ d ∷ []) s at h)
+put_mid-over s at k v e = sym (append_assoc (take at s) v (drop k (drop at s))) ∙ ap (λ (r : List ℕ). take at s ++ v ++ r) (drop-drop k at s ∙ ap (λ (n : ℕ). drop (at + n) s) e)
 
 -- ---- a list copied over a part, one element a turn
 

@@ -3,11 +3,15 @@ use mathlib.Core.Path.{◌≡◌, refl, ◌∙◌, ap}
 use mathlib.Core.Logic.{◌≢◌}
 use mathlib.Core.Bool.{Bool, true, false}
 use mathlib.Core.List.{List, [], ◌∷◌, ◌++◌, map}
-use Prim.Native.Nat.{ℕ, zero, suc, ◌+◌, ◌≤◌, ◌<◌}
-use native.Mathlib.Nat.{le_of_suc-le-suc, not-suc-le-zero}
+use Prim.Native.Nat.{ℕ, zero, suc, ◌+◌, ◌*◌, ◌≤◌, ◌<◌}
+use native.Mathlib.Numerals.{add-one}
+use native.Mathlib.Nat.{mul-zero, mul-suc, le_of_suc-le-suc, not-suc-le-zero}
 use native.Mathlib.Omega.{arith}
 use lib.Dec.{eqb}
-use lib.ListN.{length, get_or, set}
+use lib.ListN.{length, get_or, set, take, drop, length-drop}
+use lib.Seq.{get_or-drop}
+use Rattle.std.specs.List as std
+use Rattle.std.proofs.lemmas.List.Sums.{sum_by_more}
 use lib.IntN.{ℤ, pos}
 use Rattle.general.specs.Sums.{sum_over, sum_over_ℤ, sum, sum_to, up_to, sum_to_ℤ, only}
 use Rattle.general.proofs.Signed.{up, dn, add-law}
@@ -141,3 +145,27 @@ pub at-most-sum : (n : ℕ) (g : ℕ → ℕ) (j : ℕ) → j < n → g j ≤ su
 unfolding sum_to
 at-most-sum zero g j h = absurd (omega arith)
 at-most-sum (suc n) g j h = by_eqb j n (λ _. g j ≤ sum_to n g + g n) (λ e. omega (arith, ap g e)) (λ e. omega (arith, at-most-sum n g j (omega (arith, e, h))))
+
+-- ---- in parts
+
+pub sum_to-parts : (n m : ℕ) (f : ℕ → ℕ) → sum_to (n + m) f ≡ sum_to n f + sum_to m (λ k. f (n + k))
+unfolding sum_to
+sum_to-parts n zero f = let e : n + 0 ≡ n = omega arith in rw e (omega arith)
+sum_to-parts n (suc m) f = let e : n + suc m ≡ suc (n + m) = omega arith in rw e (omega (arith, sum_to-parts n m f))
+
+-- n rows of m numbers each, one row after the other
+pub sum_to-rows : (m n : ℕ) (f : ℕ → ℕ) → sum_to (m * n) f ≡ sum_to n (λ w. sum_to m (λ k. f (m * w + k)))
+unfolding sum_to
+sum_to-rows m zero f = let e : m * 0 ≡ 0 = mul-zero m in rw e
+sum_to-rows m (suc n) f = rw (mul-suc m n) (sum_to-parts (m * n) m f ∙ ap (λ (s : ℕ). s + sum_to m (λ k. f (m * n + k))) (sum_to-rows m n f))
+
+pub sum_to-most : (n most : ℕ) (f : ℕ → ℕ) → ((k : ℕ) → k < n → f k ≤ most) → sum_to n f ≤ most * n
+unfolding sum_to
+sum_to-most zero most f h = omega arith
+sum_to-most (suc n) most f h = omega (arith, sum_to-most n most f (λ k l. h k (omega arith)), h n (omega arith), mul-suc most n)
+
+-- the library's sum of n numbers of a list, from a place on
+pub sum-part : (l : List ℕ) (at n : ℕ) → at + n ≤ length l → std.sum (take n (drop at l)) ≡ sum_to n (λ k. get_or l (at + k) 0)
+unfolding sum_to
+sum-part l at zero h = refl
+sum-part l at (suc n) h = rw (← add-one n, sum_by_more (λ x. x) (drop at l) n 0 (omega (arith, length-drop at l)), sum-part l at n (omega arith), get_or-drop at l n 0)

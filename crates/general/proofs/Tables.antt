@@ -42,6 +42,10 @@ module _ {A : Type 0} where
   pub tab-of : (l : List A) (d : A) (n : ℕ) (f : ℕ → A) → length l ≡ n → ((i : ℕ) → i < n → f i ≡ get_or l i d) → tab n f ≡ l
   tab-of l d n f e h = ext_get_or d (tab n f) l (tab-length f n ∙ sym e) (λ i k. let j : i < n = rw (tab-length f n) at k in tab-at f n i d j ∙ h i j)
 
+-- what a loop has written, place by place
+pub tab-filled : {A : Type 0} (f : ℕ → A) (l : List A) (n : ℕ) (d : A) → length l ≡ n → ((k : ℕ) → k < n → get_or l k d ≡ f k) → l ≡ tab n f
+tab-filled f l n d e h = sym (tab-of l d n f e (λ k o. sym (h k o)))
+
 -- after a store at one place
 pub tab-set : {A : Type 0} (n : ℕ) (f g : ℕ → A) (i : ℕ) (x d : A) → i < n → g i ≡ x → ((k : ℕ) → k < n → k ≢ i → g k ≡ f k) → tab n g ≡ set (tab n f) i x
 tab-set n f g i x d h e o =

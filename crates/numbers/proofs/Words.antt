@@ -1,12 +1,12 @@
 -- Numbers of eight bytes, written and read back. Assumes nothing.
 use mathlib.Core.Path.{◌≡◌, refl, sym, ap, ◌∙◌}
 use mathlib.Core.List.{List}
-use Prim.Native.Nat.{ℕ, ◌+◌, ◌*◌, ◌/◌, ◌%◌, ◌≤◌, ◌<◌}
+use Prim.Native.Nat.{ℕ, ◌+◌, ◌*◌, ◌/◌, ◌%◌, ◌<◌}
 use native.Mathlib.Nat.{div-div-eq-div-mul}
 use native.Mathlib.Omega.{arith}
+use mir.Syntax.{w64}
 use lib.ListN.{length, get_or}
-use Rattle.general.specs.Parts.{over}
-use Rattle.general.proofs.Parts.{over-over}
+use Rattle.std.specs.Int.{to_le_bytes}
 use Rattle.numbers.specs.Bytes.{le32_at, le64_at, bytes32, bytes64}
 
 pub length-bytes32 : (x : ℕ) → length (bytes32 x) ≡ 4
@@ -17,21 +17,10 @@ pub length-bytes64 : (x : ℕ) → length (bytes64 x) ≡ 8
 unfolding bytes64 bytes32
 length-bytes64 x = refl
 
--- ---- written, in two halves
-
-pub two-halves : (s : List ℕ) (at x : ℕ) {a b : List ℕ} → at + 8 ≤ length s → a ≡ over s at (bytes32 x) → b ≡ over a (at + 4) (bytes32 (x / 4294967296)) → b ≡ over s at (bytes64 x)
-unfolding bytes64
-two-halves s at x {a} {b} h ea eb =
-    eb
-    ∙ ap (λ (y : List ℕ). over y (at + 4) (bytes32 (x / 4294967296))) ea
-    ∙ ap (λ (n : ℕ). over (over s at (bytes32 x)) (at + n) (bytes32 (x / 4294967296))) (sym (length-bytes32 x))
-    ∙ over-over s at (bytes32 x) (bytes32 (x / 4294967296)) (omega arith)
-
--- ---- read, in two halves
-
-pub halves-read : (s : List ℕ) (i : ℕ) {a b u v : ℕ} → a ≡ le32_at s i → b ≡ le32_at s (i + 4) → u ≡ a → v ≡ b → u + v * 4294967296 ≡ le64_at s i
-unfolding le64_at
-halves-read s i ea eb eu ev = cc
+-- byte by byte, each divided out of the whole number
+pub eight-bytes : (x : ℕ) → to_le_bytes w64 x ≡ bytes64 x
+unfolding bytes64 bytes32
+eight-bytes x = simp div-div-eq-div-mul
 
 -- of two lists with the same eight bytes it is the same number
 pub word_same : (s s' : List ℕ) (p : ℕ) → ((i : ℕ) → i < 8 → get_or s' (p + i) 0 ≡ get_or s (p + i) 0) → le64_at s' p ≡ le64_at s p

@@ -2,9 +2,9 @@
 // the bound with the number.
 #![tactic(auto)]
 
-ghost use Rattle.std.specs.Prelude.{◌≡◌, ◌||◌, ◌≤◌, ◌<◌, ◌^◌, min};
+ghost use Rattle.std.specs.Prelude.{◌≡◌, Bool, ◌||◌, ℕ, ◌≤◌, ◌<◌, ◌^◌, min};
 ghost use Rattle.general.specs.Sums.{only};
-ghost use Rattle.general.specs.Tests.{◌and◌, between, bit, with_bit};
+ghost use Rattle.general.specs.Tests.{◌and◌, between, all_to, bit, with_bit};
 
 pub mod bytes;
 
@@ -13,7 +13,7 @@ pub mod bytes;
 pub fn byte16(x: u8) -> u16
     ensures { (result ≡ x) × (result < 256) }
 {
-    x as u16
+    u16::from(x)
 }
 
 pub fn byte32(x: u8) -> u32
@@ -65,7 +65,7 @@ pub fn wide_size(x: usize) -> u64
 pub fn lesser(a: u64, b: u64) -> u64
     ensures { (result ≡ min a b) × (result ≤ a) × (result ≤ b) }
 {
-    if a < b { a } else { b }
+    a.min(b)
 }
 
 // Whether bit i of a word is set.
@@ -101,7 +101,7 @@ pub fn put_bit(word: u64, i: u64, on: bool) -> u64
 pub fn one_if(on: bool) -> usize
     ensures { (result ≡ only on 1) × (result ≤ 1) }
 {
-    if on { 1 } else { 0 }
+    usize::from(on)
 }
 
 // ---- tests joined without a branch: rules of one record are all asked, and their answers put together
@@ -109,17 +109,30 @@ pub fn one_if(on: bool) -> usize
 pub fn both(a: bool, b: bool) -> bool
     ensures { result ≡ (a and b) }
 {
-    if a { b } else { false }
+    a & b
 }
 
 pub fn either(a: bool, b: bool) -> bool
     ensures { result ≡ (a || b) }
 {
-    if a { true } else { b }
+    a | b
 }
 
+// What `contains` of a range says, in the words of the rules.
 pub fn in_range(low: u32, x: u32, high: u32) -> bool
     ensures { result ≡ between low x high }
 {
-    both(low <= x, x <= high)
+    (low..=high).contains(&x)
+}
+
+// Whether all numbers below n pass a test. All are asked: a loop that may leave early costs more than it saves, since most files are good.
+pub fn all_below<F: Fn(usize) -> bool>(n: usize, test: F) -> bool
+    requires { (k : ℕ) → k < n → F.pre test k }
+    ensures { (t : ℕ → Bool) → ((k : ℕ) (b : Bool) → k < n → F.post test k b → b ≡ t k) → result ≡ all_to n t }
+{
+    let mut all = true;
+    for k in 0..n {
+        all &= test(k);
+    }
+    all
 }

@@ -11,8 +11,7 @@ pub fn decode(bytes: &[u8], runoff: &mut [u32])
     requires { sheet_size (length runoff.old) ≤ length bytes.now }
     ensures { runoff.new ≡ sheet_of (length runoff.old) bytes.now }
 {
-    let n = runoff.len();
-    for row in 0..n {
-        runoff[row] = le32(bytes, 4 * row);
+    for (row, number) in runoff.iter_mut().enumerate() {
+        *number = le32(bytes, 4 * row);
     }
 }

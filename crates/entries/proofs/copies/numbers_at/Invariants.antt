@@ -1,11 +1,7 @@
--- `entries::copies::numbers_at` meets its contract. Assumes nothing.
-use mathlib.Core.Path.{◌≡◌}
-use Prim.Native.Nat.{◌≤◌}
-use lib.ListN.{length}
-use Rattle.general.proofs.Lists.{Written}
-use Rattle.places.specs.Board.{board_length}
-use Rattle.entries.specs.Entries.{board_start, board_at}
+-- `entries::copies::numbers_at` meets its contract. The loop's invariant: the numbers so far are those of the entry. Assumes nothing.
+use Rattle.std.proofs.Common.{◌≡◌, ℕ, ◌+◌, ◌*◌, ◌<◌, get_or}
+use Rattle.numbers.specs.Bytes.{le64_at}
 use Rattle.entries.proofs.copies.numbers_at.Given as goal
 
 abbrev pub invariant-loop-k : goal.invariant-loop-k
-invariant-loop-k l = (l.k ≤ board_length) × (l.start ≡ board_start l.entry) × (length l.numbers ≡ board_length) × Written 0 (board_at l.store l.entry) l.numbers l.k
+invariant-loop-k l = (k : ℕ) → k < l.k → get_or l.number-items k 0 ≡ le64_at l.store (l.start + 8 * k)

@@ -1,19 +1,13 @@
-use mathlib.Core.Path.{refl, sym, ◌∙◌}
-use native.Mathlib.Omega.{arith}
-use borrow.Author.Rules.{rules}
-use Rattle.general.proofs.Loops.{search-here, search-on, search-over}
+use Rattle.std.proofs.Common.{◌∙◌, sym, refl, rules, tests}
+use Rattle.std.proofs.lemmas.Iterator.{YieldsList-from_range}
+use Rattle.std.proofs.lemmas.Iterator.Adapters.{option_map_id}
+use Rattle.std.proofs.lemmas.Iterator.Search.{find_from_yields_List}
+use Rattle.general.proofs.Search.{found-first}
 use Rattle.entries.specs.Entries.{is_named, first_named}
 use Rattle.entries.proofs.names.find.Goals as goal
 
-pub loop-entry-init : goal.loop-entry-init
-unfolding first_named
-loop-entry-init c = (search rules, refl)
-
-pub returns-then-is_named : goal.returns-then-is_named
-returns-then-is_named c = let a = c.args in let l = c.loop-entry in sym (search-here (is_named a.store.now a.name) 4 l.entry (omega arith) (sym c.is_named.ensures ∙ c.if-is_named.true)) ∙ l.invariant.1
-
-pub loop-entry-preserved : goal.loop-entry-preserved
-loop-entry-preserved c = let a = c.args in let l = c.loop-entry in (omega arith, sym (search-on (is_named a.store.now a.name) 4 l.entry (omega arith) (sym c.is_named.ensures ∙ c.if-is_named.false)) ∙ l.invariant.1)
-
 pub returns : goal.returns
-returns c = let a = c.args in let l = c.loop-entry in sym (search-over (is_named a.store.now a.name) 4 l.entry (omega arith)) ∙ l.invariant.1
+unfolding first_named
+returns c =
+    let t = is_named c.args.store.now c.args.name in
+    sym (option_map_id c.find.result) ∙ find_from_yields_List t _ _ _ c.find.ensures.ran (YieldsList-from_range 0 4 4 refl refl) (λ x b q k. search (rules, tests)) ∙ found-first t 4 0

@@ -1,7 +1,4 @@
-use mathlib.Core.Path.{ap, ◌∙◌}
-use Prim.Native.Nat.{ℕ, ◌+◌}
-use native.Mathlib.Omega.{arith}
-use borrow.Author.Rules.{rules}
+use Rattle.std.proofs.Common.{ap, ◌∙◌, ℕ, ◌+◌, ◌*◌, arith}
 use Rattle.general.specs.Sums.{sum_to}
 use Rattle.general.proofs.Loops.{total-none, total-more, step-within}
 use Rattle.numbers.specs.Bytes.{byte_sum}
@@ -9,7 +6,7 @@ use Rattle.numbers.proofs.bytes.byte_sum.Invariants.{byte}
 use Rattle.numbers.proofs.bytes.byte_sum.Goals as goal
 
 pub loop-k-init : goal.loop-k-init
-loop-k-init c = (search rules, search rules, total-none _)
+loop-k-init c = (omega arith, total-none _)
 
 pub overflow_mul-step : goal.overflow_mul-step
 overflow_mul-step c = let a = c.args in omega (arith, step-within a.step a.n c.loop-k.k (omega arith))
@@ -21,8 +18,12 @@ pub bounds-s-at : goal.bounds-s-at
 bounds-s-at c = let a = c.args in omega (arith, step-within a.step a.n c.loop-k.k (omega arith))
 
 pub loop-k-preserved : goal.loop-k-preserved
-loop-k-preserved c = let a = c.args in (omega arith, omega (arith, c.byte32-total.ensures), ap (λ (x : ℕ). c.loop-k.total + x) c.byte32-total.ensures.0 ∙ total-more (byte a.s.now a.at a.step) _ _ c.loop-k.invariant.2)
+loop-k-preserved c =
+    let a = c.args in
+    let l = c.loop-k in
+    let e = c.from-total.ensures in
+    (omega (arith, e, (c.type_inv.s (a.at + a.step * l.k)).fits), ap (λ (x : ℕ). l.total + x) e ∙ total-more (byte a.s.now a.at a.step) _ _ l.invariant.1)
 
 pub returns : goal.returns
 unfolding byte_sum
-returns c = let a = c.args in c.loop-k.invariant.2 ∙ ap (λ (k : ℕ). sum_to k (byte a.s.now a.at a.step)) (omega arith)
+returns c = let a = c.args in c.loop-k.invariant.1 ∙ ap (λ (k : ℕ). sum_to k (byte a.s.now a.at a.step)) (omega arith)

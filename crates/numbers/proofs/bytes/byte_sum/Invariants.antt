@@ -1,7 +1,5 @@
 -- `numbers::bytes::byte_sum` meets its contract. The loop's invariant: the total is the sum of the bytes passed, and so at most 255 for each. Assumes nothing.
-use mathlib.Core.Path.{◌≡◌}
-use mathlib.Core.List.{List}
-use Prim.Native.Nat.{ℕ, ◌+◌, ◌*◌, ◌≤◌}
+use Rattle.std.proofs.Common.{◌≡◌, List, ℕ, ◌+◌, ◌*◌, ◌≤◌}
 use Rattle.general.specs.Sums.{sum_to}
 use Rattle.numbers.specs.Bytes.{byte_at}
 use Rattle.numbers.proofs.bytes.byte_sum.Given as goal
@@ -10,4 +8,4 @@ abbrev pub byte : List ℕ → ℕ → ℕ → ℕ → ℕ
 byte s at step k = byte_at s (at + step * k)
 
 abbrev pub invariant-loop-k : goal.invariant-loop-k
-invariant-loop-k l = (l.k ≤ l.n) × (l.total ≤ 255 * l.k) × (l.total ≡ sum_to l.k (byte l.s l.at l.step))
+invariant-loop-k l = (l.total ≤ 255 * l.k) × (l.total ≡ sum_to l.k (byte l.s l.at l.step))

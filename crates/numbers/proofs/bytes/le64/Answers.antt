@@ -1,8 +1,7 @@
--- `numbers::bytes::le64` meets its contract. Assumes nothing.
-use Rattle.numbers.proofs.Words.{halves-read}
+use Rattle.std.proofs.Common.{add_assoc, arith}
+use Rattle.numbers.specs.Bytes.{le64_at, le32_at}
 use Rattle.numbers.proofs.bytes.le64.Goals as goal
 
 pub returns : goal.returns
-returns c =
-    let a = c.args in
-    halves-read a.s.now a.at c.le32.ensures c.le32-2.ensures c.wide32.ensures.0 c.wide32-2.ensures.0
+unfolding le64_at le32_at
+returns c = simp add_assoc (omega (arith, c.from_le_bytes.ensures))

@@ -1,7 +1,10 @@
--- `numbers::bytes::put64` meets its contract. Assumes nothing.
-use native.Mathlib.Omega.{arith}
-use Rattle.numbers.proofs.Words.{two-halves}
+use Rattle.std.proofs.Common.{◌∙◌, arith}
+use Rattle.general.proofs.Parts.{put_mid-over}
+use Rattle.numbers.proofs.Words.{length-bytes64, eight-bytes}
 use Rattle.numbers.proofs.bytes.put64.Goals as goal
 
 pub returns : goal.returns
-returns c = let a = c.args in two-halves a.s.now a.at a.x (omega arith) c.put32.ensures c.put32-2.ensures
+returns c =
+    let a = c.args in
+    let e = c.copy_from_slice.ensures.after ∙ c.to_le_bytes.ensures ∙ eight-bytes a.x in
+    rw e (put_mid-over a.s.now a.at _ _ (omega (arith, length-bytes64 a.x)))
