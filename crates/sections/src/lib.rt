@@ -6,7 +6,7 @@ ghost use Rattle.sections.specs.File.{width_of, offset_of, count_of, end_of, cou
 ghost use Rattle.sections.specs.Sections.{place_of};
 
 use numbers::bytes::le32;
-use numbers::{both, in_range, size};
+use numbers::in_range;
 
 // The sections, in the order of the table of contents.
 #[derive(Clone, Copy, Debug, PartialEq, Eq)]
@@ -42,7 +42,7 @@ impl Section {
         requires { 32 ≤ length file.now }
         ensures { (result ≡ offset_of file.now (place_of self)) × (result < 4294967296) }
     {
-        size(le32(file, 8 * self.place()))
+        le32(file, 8 * self.place()) as usize
     }
 
     // The number of its records, by the table.
@@ -58,7 +58,7 @@ impl Section {
         requires { 32 ≤ length file.now }
         ensures { result ≡ end_of file.now (place_of self) }
     {
-        self.offset(file) + size(self.count(file)) * self.width()
+        self.offset(file) + self.count(file) as usize * self.width()
     }
 
     // Its records where they stand in the caller's file, nothing copied; nothing where the table points past the end.
@@ -81,30 +81,21 @@ fn counts_ok(file: &[u8]) -> bool
     requires { 32 ≤ length file.now }
     ensures { result ≡ counts_ok file.now }
 {
-    let stations = in_range(1, Section::Stations.count(file), 64);
-    let reservoirs = both(stations, Section::Reservoirs.count(file) <= 8);
-    let patterns = both(reservoirs, Section::Patterns.count(file) <= 16);
-    both(patterns, Section::Rights.count(file) <= 256)
+    in_range(1, Section::Stations.count(file), 64)
+        & (Section::Reservoirs.count(file) <= 8)
+        & (Section::Patterns.count(file) <= 16)
+        & (Section::Rights.count(file) <= 256)
 }
 
 fn is_packed(file: &[u8]) -> bool
     requires { 32 ≤ length file.now }
     ensures { result ≡ packed file.now }
 {
-    let stations = Section::Stations.offset(file) == 32;
-    let reservoirs = both(
-        stations,
-        Section::Reservoirs.offset(file) == Section::Stations.end(file),
-    );
-    let patterns = both(
-        reservoirs,
-        Section::Patterns.offset(file) == Section::Reservoirs.end(file),
-    );
-    let rights = both(
-        patterns,
-        Section::Rights.offset(file) == Section::Patterns.end(file),
-    );
-    both(rights, file.len() == Section::Rights.end(file))
+    (Section::Stations.offset(file) == 32)
+        & (Section::Reservoirs.offset(file) == Section::Stations.end(file))
+        & (Section::Patterns.offset(file) == Section::Reservoirs.end(file))
+        & (Section::Rights.offset(file) == Section::Patterns.end(file))
+        & (file.len() == Section::Rights.end(file))
 }
 
 // Whether the table of contents is there and describes the file.
@@ -114,5 +105,5 @@ pub fn layout_ok(file: &[u8]) -> bool
     if file.len() < 32 {
         return false;
     }
-    both(counts_ok(file), is_packed(file))
+    counts_ok(file) & is_packed(file)
 }
