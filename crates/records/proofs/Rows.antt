@@ -1,16 +1,15 @@
 -- Laws of the row below, at a body of stations. Assumes nothing.
 use Rattle.std.specs.Prelude.{Option, None, Some, is_some}
 use mathlib.Core.Path.{◌≡◌, sym, ap, ◌∙◌}
-use mathlib.Core.Bool.{Bool, true, false, ◌||◌}
+use mathlib.Core.Bool.{true, false, ◌||◌}
 use mathlib.Core.List.{List}
-use Prim.Native.Nat.{ℕ, suc, ◌+◌, ◌-◌, ◌≤◌, ◌<◌}
+use Prim.Native.Nat.{ℕ, ◌+◌, ◌-◌, ◌<◌}
 use native.Mathlib.Numerals.{add-one}
 use native.Mathlib.Omega.{arith}
-use borrow.Author.Tests.{eq-eqb, ne_eqb}
 use lib.Dec.{eqb}
 use lib.ListN.{length}
 use Rattle.general.specs.Tests.{first_at}
-use Rattle.general.proofs.Loops.{search-here, search-on, search-over}
+use Rattle.general.proofs.Search.{first-same}
 use Rattle.rules.specs.Basin.{Station, no_station, station_at}
 use Rattle.rules.specs.Path.{carries_on, row_below}
 use Rattle.records.specs.Records.{rows_of, station_of, stations_of}
@@ -29,33 +28,11 @@ order_is : (s : List ℕ) (i : ℕ) → i < rows_of s → (station_at (stations_
 unfolding station_of
 order_is s i h = ap (λ (x : Station). x.order) (station-is s i h)
 
--- ---- the search for the row below, at row j
-
--- the answer that the rows from j on give to a row of order o
-abbrev pub below_from : List ℕ → ℕ → ℕ → Option ℕ
-below_from s o j = (first_at (rows_of s - j) j (carries_on (stations_of s) o))
-
-pub below-start : (s : List ℕ) (i o : ℕ) → i < rows_of s → o ≡ order_at s i → below_from s o (i + 1) ≡ row_below (stations_of s) i
-unfolding row_below
-below-start s i o h e = rw (rows_are s, order_is s i h, ← e, add-one i)
-
-module _ (s : List ℕ) (o j : ℕ) (h : j < rows_of s) where
-  test : (b : Bool) → (eqb (order_at s j) o || eqb (suc (order_at s j)) o) ≡ b → carries_on (stations_of s) o j ≡ b
-  unfolding carries_on
-  test b e = rw (order_is s j h) e
-
-  pub below-same : order_at s j ≡ o → below_from s o j ≡ Some j
-  below-same e = (search-here _ (rows_of s) j h (test true (rw (eq-eqb (order_at s j) o e))))
-
-  module _ (ne : order_at s j ≡ o → ⊥) where
-    pub below_less : order_at s j + 1 ≡ o → below_from s o j ≡ Some j
-    below_less e = (search-here _ (rows_of s) j h (test true (rw (ne_eqb (order_at s j) o ne, eq-eqb (suc (order_at s j)) o (omega arith)))))
-
-    pub below_on : (order_at s j + 1 ≡ o → ⊥) → below_from s o j ≡ below_from s o (j + 1)
-    below_on ne' = (search-on _ (rows_of s) j h (test false (rw (ne_eqb (order_at s j) o ne, ne_eqb (suc (order_at s j)) o (λ e. ne' (omega arith))))))
-
-pub below_none : (s : List ℕ) (o j : ℕ) → rows_of s ≤ j → below_from s o j ≡ None
-below_none s o j h = (search-over _ (rows_of s) j h)
+-- the first of the rows after row i whose order is o or one less
+pub below-first : (s : List ℕ) (i o : ℕ) → i < rows_of s → o ≡ order_at s i
+    → first_at (rows_of s - (i + 1)) (i + 1) (λ j. eqb (order_at s j) o || eqb (order_at s j + 1) o) ≡ row_below (stations_of s) i
+unfolding row_below carries_on
+below-first s i o h e = rw (rows_are s, order_is s i h, ← e, ← add-one i) (first-same _ _ (rows_of s - (i + 1)) (i + 1) (λ j l m. rw (order_is s j (omega arith), ← add-one (order_at s j))))
 
 -- ---- what the answer says
 

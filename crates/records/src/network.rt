@@ -6,14 +6,12 @@ ghost use Rattle.records.specs.Records.{rows_of, stations_of};
 ghost use Rattle.records.specs.Network.{order_at};
 ghost use Rattle.records.specs.Table.{below_code, table_of, step_of, path_by, OnTable};
 
-use numbers::index;
-
 // Widened, so that one more than an order does not wrap.
 fn order_at(stations: &[u8], row: usize) -> usize
     requires { row < rows_of stations.now }
     ensures { (result ≡ order_at stations.now row) × (result < 256) }
 {
-    index(stations[8 * row + 4])
+    usize::from(stations[8 * row + 4])
 }
 
 // The next station downstream, where there is one: the river goes on at the next row of the same order, or of one less.
@@ -22,17 +20,10 @@ pub fn row_below(stations: &[u8], row: usize) -> Option<usize>
     ensures { result ≡ row_below (stations_of stations.now) row }
 {
     let order = order_at(stations, row);
-    let n = stations.len() / 8;
-    for later in row + 1..n {
+    (row + 1..stations.len() / 8).find(|&later| {
         let x = order_at(stations, later);
-        if x == order {
-            return Some(later);
-        }
-        if x + 1 == order {
-            return Some(later);
-        }
-    }
-    None
+        (x == order) | (x + 1 == order)
+    })
 }
 
 // The number that stands for a row below in the table: a row's own, which fits since there are at most 64, and 255 for none.
@@ -53,8 +44,8 @@ pub fn rows_below(stations: &[u8]) -> [u8; 64]
 {
     let mut below = [255u8; 64];
     let n = stations.len() / 8;
-    for row in 0..n {
-        below[row] = code(stations, row);
+    for (row, place) in below[..n].iter_mut().enumerate() {
+        *place = code(stations, row);
     }
     below
 }
@@ -64,11 +55,8 @@ pub fn next_row(below: &[u8; 64], row: usize) -> Option<usize>
     requires { row < 64 }
     ensures { result ≡ step_of below.now row }
 {
-    let next = index(below[row]);
-    if next < 64 {
-        return Some(next);
-    }
-    None
+    let next = usize::from(below[row]);
+    (next < 64).then_some(next)
 }
 
 // Whether the target is on the row's path: it is the row itself, or on the path of the row below. All that it is given fits in registers,

@@ -21,9 +21,9 @@ fn running_sums(patterns: &[u8], p: usize) -> [u8; 12]
 {
     let mut sums = [0u8; 12];
     let mut so_far: u8 = 0;
-    for k in 0..12 {
+    for (k, sum) in sums.iter_mut().enumerate() {
         so_far += patterns[12 * p + k];
-        sums[k] = so_far;
+        *sum = so_far;
     }
     sums
 }
@@ -36,8 +36,8 @@ pub fn decode_patterns(patterns: &[u8]) -> [[u8; 12]; 16]
 {
     let mut table = [[0u8; 12]; 16];
     let n = patterns.len() / 12;
-    for p in 0..n {
-        table[p] = running_sums(patterns, p);
+    for (p, sums) in table[..n].iter_mut().enumerate() {
+        *sums = running_sums(patterns, p);
     }
     table
 }

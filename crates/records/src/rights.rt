@@ -5,7 +5,7 @@ ghost use Rattle.records.specs.Records.{right_count, kind_byte, kind_named, righ
 use numbers::bytes::{le16, le32};
 
 // What a right is: direct flow; project, with a reservoir behind it; instream flow; storage.
-#[derive(Clone, Copy)]
+#[derive(Clone, Copy, Debug, PartialEq, Eq)]
 pub enum Kind {
     Direct,
     Project,
@@ -38,14 +38,16 @@ pub fn kind_byte(rights: &[u8], i: usize) -> u8
 
 // The kind that a byte stands for. Any byte has one, so that a record can be read before its byte is judged: the rules of the file
 // let no byte through but 1 to 4.
-fn kind_named(byte: u8) -> Kind
-    ensures { result ≡ kind_named byte }
-{
-    match byte {
-        1 => Kind::Direct,
-        2 => Kind::Project,
-        3 => Kind::Instream,
-        _ => Kind::Storage,
+impl From<u8> for Kind {
+    ghost from_gives = { λ byte kind. kind ≡ kind_named byte };
+
+    fn from(byte: u8) -> Kind {
+        match byte {
+            1 => Kind::Direct,
+            2 => Kind::Project,
+            3 => Kind::Instream,
+            _ => Kind::Storage,
+        }
     }
 }
 
@@ -54,7 +56,7 @@ pub fn right_at(rights: &[u8], i: usize) -> RightRecord
     ensures { result ≡ right_record rights.now i }
 {
     let at = 76 * i;
-    let kind = kind_named(kind_byte(rights, i));
+    let kind = Kind::from(kind_byte(rights, i));
     RightRecord {
         permit: le32(rights, at),
         date: le32(rights, at + 4),

@@ -1,9 +1,14 @@
 -- `records::network::next_row` meets its contract. Assumes nothing.
-use Rattle.records.proofs.Table.{next-is, next-none}
+use Rattle.std.proofs.Common.{◌≡◌, Bool, true, false, cond, ℕ, refl, ◌∙◌}
+use Rattle.std.specs.Prelude.{Some, None}
+use Rattle.std.specs.Bool.{then_some}
+use Rattle.records.specs.Table.{step_of}
 use Rattle.records.proofs.network.next_row.Goals as goal
 
-pub returns-then-next-lt64 : goal.returns-then-next-lt64
-returns-then-next-lt64 c = let a = c.args in next-is a.below.now a.row c.index-next.result c.index-next.ensures.0 c.if-next-lt64.true
+told : (b : Bool) (x : ℕ) → then_some b x ≡ cond b (Some x) None
+told true x = refl
+told false x = refl
 
 pub returns : goal.returns
-returns c = let a = c.args in next-none a.below.now a.row c.index-next.result c.index-next.ensures.0 c.if-next-lt64.false
+unfolding step_of
+returns c = (rw c.from-next.ensures at c.then_some.ensures) ∙ told _ _

@@ -1,26 +1,18 @@
-use mathlib.Core.Path.{refl, sym, ap, ◌∙◌}
-use Prim.Native.Nat.{ℕ, ◌+◌}
-use native.Mathlib.Omega.{arith}
-use Rattle.records.proofs.Rows.{below-start, below-same, below_less, below_on, below_none}
+-- `records::network::row_below` meets its contract. Assumes nothing.
+use Rattle.std.proofs.Common.{◌∙◌, sym, refl, rules, tests, arith, ◌+◌, Bool, ◌||◌, ℕ, eqb}
+use Rattle.std.proofs.lemmas.Iterator.{YieldsList-from_range}
+use Rattle.std.proofs.lemmas.Iterator.Adapters.{option_map_id}
+use Rattle.std.proofs.lemmas.Iterator.Search.{find_from_yields_List}
+use Rattle.general.proofs.Search.{found-first}
+use Rattle.records.specs.Network.{order_at}
+use Rattle.records.proofs.Rows.{below-first}
 use Rattle.records.proofs.network.row_below.Goals as goal
-
-pub loop-later-init : goal.loop-later-init
-loop-later-init c = (refl, omega arith, below-start _ _ _ (omega arith) c.order_at-order.ensures.0)
-
-pub returns-then-x-order : goal.returns-then-x-order
-returns-then-x-order c =
-    sym (below-same c.args.stations.now c.order_at-order.result c.loop-later.later (omega arith) (sym c.order_at-x.ensures.0 ∙ c.if-x-order.true)) ∙ c.loop-later.invariant.2
-
-pub returns-then-x-order-2 : goal.returns-then-x-order-2
-returns-then-x-order-2 c =
-    let x = c.order_at-x.ensures.0 in
-    sym (below_less c.args.stations.now c.order_at-order.result c.loop-later.later (omega arith) (λ e. c.if-x-order.false (x ∙ e)) (ap (λ (k : ℕ). k + 1) (sym x) ∙ c.if-x-order-2.true)) ∙ c.loop-later.invariant.2
-
-pub loop-later-preserved : goal.loop-later-preserved
-loop-later-preserved c =
-    let x = c.order_at-x.ensures.0 in
-    (omega arith, omega arith, sym (below_on c.args.stations.now c.order_at-order.result c.loop-later.later (omega arith) (λ e. c.if-x-order.false (x ∙ e)) (λ e. c.if-x-order-2.false (ap (λ (k : ℕ). k + 1) x ∙ e))) ∙ c.loop-later.invariant.2)
 
 pub returns : goal.returns
 returns c =
-    sym (below_none c.args.stations.now c.order_at-order.result c.loop-later.later (omega arith)) ∙ c.loop-later.invariant.2
+    let s = c.args.stations.now in
+    let o = c.order_at-order.result in
+    let t : ℕ → Bool = λ j. eqb (order_at s j) o || eqb (order_at s j + 1) o in
+    sym (option_map_id c.find.result)
+    ∙ find_from_yields_List t _ _ _ c.find.ensures.ran (YieldsList-from_range _ _ _ refl refl) (λ x b q k. search (rules, tests))
+    ∙ found-first t _ _ ∙ below-first s c.args.row o (omega arith) c.order_at-order.ensures.0
