@@ -4,7 +4,7 @@ ghost use Rattle.records.specs.Records.{reservoir_count};
 ghost use Rattle.filerules.specs.FileRules.{contents_rise, areas_ok, depths_ok, surveys_ok, reservoir_plain, reservoir_ok};
 
 use numbers::bytes::{all_at_most, three_zeros};
-use numbers::{both, in_range, index};
+use numbers::{all_below, in_range};
 use records::reservoirs::{content_at, depth_at, reservoir_at};
 
 // Whether the storages of the four pairs rise strictly.
@@ -12,12 +12,9 @@ fn contents_rise(reservoirs: &[u8], v: usize) -> bool
     requires { v < reservoir_count reservoirs.now }
     ensures { result ≡ contents_rise reservoirs.now v }
 {
-    let mut all = true;
-    for k in 0..3 {
-        let rises = content_at(reservoirs, v, k) < content_at(reservoirs, v, k + 1);
-        all = both(all, rises);
-    }
-    all
+    all_below(3, |k| {
+        content_at(reservoirs, v, k) < content_at(reservoirs, v, k + 1)
+    })
 }
 
 fn areas_ok(reservoirs: &[u8], v: usize) -> bool
@@ -31,11 +28,7 @@ fn depths_ok(reservoirs: &[u8], v: usize) -> bool
     requires { v < reservoir_count reservoirs.now }
     ensures { result ≡ depths_ok reservoirs.now v }
 {
-    let mut all = true;
-    for m in 0..12 {
-        all = both(all, depth_at(reservoirs, v, m) <= 1000);
-    }
-    all
+    all_below(12, |m| depth_at(reservoirs, v, m) <= 1000)
 }
 
 // The area-capacity table starts empty and rises.
@@ -43,11 +36,7 @@ fn surveys_ok(reservoirs: &[u8], v: usize) -> bool
     requires { v < reservoir_count reservoirs.now }
     ensures { result ≡ surveys_ok reservoirs.now v }
 {
-    let rising = both(
-        content_at(reservoirs, v, 0) == 0,
-        contents_rise(reservoirs, v),
-    );
-    both(rising, areas_ok(reservoirs, v))
+    (content_at(reservoirs, v, 0) == 0) & contents_rise(reservoirs, v) & areas_ok(reservoirs, v)
 }
 
 // The rules of the record's first 12 bytes.
@@ -56,20 +45,15 @@ fn plain_ok(stations: &[u8], reservoirs: &[u8], v: usize) -> bool
     ensures { result ≡ reservoir_plain stations.now reservoirs.now v }
 {
     let x = reservoir_at(reservoirs, v);
-    let placed = both(
-        index(x.row) < stations.len() / 8,
-        three_zeros(reservoirs, 68 * v + 1),
-    );
-    both(
-        both(placed, in_range(1, x.capacity, 2000000000)),
-        x.start <= x.capacity,
-    )
+    (usize::from(x.row) < stations.len() / 8)
+        & three_zeros(reservoirs, 68 * v + 1)
+        & in_range(1, x.capacity, 2000000000)
+        & (x.start <= x.capacity)
 }
 
 pub fn reservoir_ok(stations: &[u8], reservoirs: &[u8], v: usize) -> bool
     requires { v < reservoir_count reservoirs.now }
     ensures { result ≡ reservoir_ok stations.now reservoirs.now v }
 {
-    let built = both(plain_ok(stations, reservoirs, v), surveys_ok(reservoirs, v));
-    both(built, depths_ok(reservoirs, v))
+    plain_ok(stations, reservoirs, v) & surveys_ok(reservoirs, v) & depths_ok(reservoirs, v)
 }

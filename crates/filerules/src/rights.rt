@@ -6,7 +6,7 @@ ghost use Rattle.filerules.specs.FileRules.{date_ok, kind_known, limit_ok, headi
 ghost use Rattle.records.specs.Table.{GoodRows, TableFor, ReservoirsOn};
 
 use numbers::bytes::{all_at_most, byte_sum};
-use numbers::{both, byte32, either, in_range, index};
+use numbers::{all_below, in_range};
 use records::network::on_path;
 use records::reservoirs::reservoir_at;
 use records::rights::{Kind, RightRecord, kind_byte, return_percent, return_row, right_at};
@@ -14,7 +14,7 @@ use records::rights::{Kind, RightRecord, kind_byte, return_percent, return_row, 
 fn date_ok(date: u32) -> bool
     ensures { result ≡ date_ok date }
 {
-    either(in_range(18000101, date, 20991231), date == 99999999)
+    in_range(18000101, date, 20991231) | (date == 99999999)
 }
 
 // Whether a right's kind is one of the four. A record has a kind whatever its byte is, so that the byte itself is asked.
@@ -22,7 +22,7 @@ fn kind_known(rights: &[u8], i: usize) -> bool
     requires { i < right_count rights.now }
     ensures { result ≡ kind_known rights.now i }
 {
-    in_range(1, byte32(kind_byte(rights, i)), 4)
+    in_range(1, u32::from(kind_byte(rights, i)), 4)
 }
 
 fn limit_ok(kind: Kind, limit: u32) -> bool
@@ -38,11 +38,12 @@ fn limit_ok(kind: Kind, limit: u32) -> bool
 fn heading_ok(n: usize, r: RightRecord) -> bool
     ensures { result ≡ heading_ok n r }
 {
-    let named = both(in_range(1, r.permit, 999999999), date_ok(r.date));
-    let placed = both(named, index(r.row) < n);
-    let counted = both(both(placed, r.points <= 4), r.months < 4096);
-    let kind = r.kind;
-    both(counted, limit_ok(kind, r.limit))
+    in_range(1, r.permit, 999999999)
+        & date_ok(r.date)
+        & (usize::from(r.row) < n)
+        & (r.points <= 4)
+        & (r.months < 4096)
+        & limit_ok(r.kind, r.limit)
 }
 
 // Whether the row is on the path of reservoir v. The promise is for the stations that the table was made from.
@@ -50,22 +51,14 @@ fn below_reservoir(below: &[u8; 64], reservoirs: &[u8], v: usize, row: usize) ->
     requires { ReservoirsOn below.now reservoirs.now }
     ensures { (st : List ℕ) → TableFor st below.now → GoodRows st reservoirs.now → result ≡ below_reservoir st reservoirs.now v row }
 {
-    if reservoirs.len() / 68 <= v {
-        return false;
-    }
-    let behind = reservoir_at(reservoirs, v);
-    on_path(below, index(behind.row), row)
+    v < reservoirs.len() / 68 && on_path(below, usize::from(reservoir_at(reservoirs, v).row), row)
 }
 
 // Whether the row is that of reservoir v.
 fn at_reservoir(reservoirs: &[u8], v: usize, row: u8) -> bool
     ensures { result ≡ at_reservoir reservoirs.now v row }
 {
-    if reservoirs.len() / 68 <= v {
-        return false;
-    }
-    let behind = reservoir_at(reservoirs, v);
-    row == behind.row
+    v < reservoirs.len() / 68 && row == reservoir_at(reservoirs, v).row
 }
 
 // The reservoir that the right names, and where the right stands to it. Only a project right needs a walk down the river.
@@ -74,10 +67,10 @@ fn source_ok(below: &[u8; 64], reservoirs: &[u8], r: RightRecord) -> bool
     ensures { (st : List ℕ) → TableFor st below.now → GoodRows st reservoirs.now → result ≡ source_ok r.kind st reservoirs.now r }
 {
     let kind = r.kind;
-    let v = index(r.reservoir);
+    let v = usize::from(r.reservoir);
     match kind {
         Kind::Direct | Kind::Instream => r.reservoir == 255,
-        Kind::Project => below_reservoir(below, reservoirs, v, index(r.row)),
+        Kind::Project => below_reservoir(below, reservoirs, v, usize::from(r.row)),
         Kind::Storage => at_reservoir(reservoirs, v, r.row),
     }
 }
@@ -85,10 +78,7 @@ fn source_ok(below: &[u8; 64], reservoirs: &[u8], r: RightRecord) -> bool
 fn point_ok(n: usize, from: usize, row: usize, percent: u8) -> bool
     ensures { result ≡ point_ok n from row percent }
 {
-    both(
-        both(from <= row, row < n),
-        in_range(1, byte32(percent), 100),
-    )
+    (from <= row) & (row < n) & in_range(1, u32::from(percent), 100)
 }
 
 // Whether the first pairs, as many as there are points, are good return points.
@@ -96,12 +86,10 @@ fn each_point_ok(n: usize, from: usize, rights: &[u8], i: usize, points: usize) 
     requires { (i < right_count rights.now) × (points ≤ 4) }
     ensures { result ≡ each_point_ok n from rights.now i points }
 {
-    let mut all = true;
-    for k in 0..points {
-        let row = index(return_row(rights, i, k));
-        all = both(all, point_ok(n, from, row, return_percent(rights, i, k)));
-    }
-    all
+    all_below(points, |k| {
+        let row = usize::from(return_row(rights, i, k));
+        point_ok(n, from, row, return_percent(rights, i, k))
+    })
 }
 
 // The sum of the percents of the return points.
@@ -117,10 +105,11 @@ fn points_ok(n: usize, np: usize, rights: &[u8], i: usize, r: RightRecord) -> bo
     requires { (i < right_count rights.now) × (r.points ≤ 4) }
     ensures { result ≡ points_ok n np rights.now i r }
 {
-    let points = index(r.points);
-    let shared = both(r.efficiency <= 100, index(r.pattern) < np);
-    let each = both(shared, each_point_ok(n, index(r.row), rights, i, points));
-    both(each, percent_sum(rights, i, points) == 100)
+    let points = usize::from(r.points);
+    (r.efficiency <= 100)
+        & (usize::from(r.pattern) < np)
+        & each_point_ok(n, usize::from(r.row), rights, i, points)
+        & (percent_sum(rights, i, points) == 100)
 }
 
 // The rules of what a diversion consumes and returns. One without return points consumes all.
@@ -129,7 +118,7 @@ fn diversion_ok(n: usize, np: usize, rights: &[u8], i: usize, r: RightRecord) ->
     ensures { result ≡ diversion_ok n np rights.now i r }
 {
     if r.points == 0 {
-        return both(r.efficiency == 100, r.pattern == 255);
+        return (r.efficiency == 100) & (r.pattern == 255);
     }
     points_ok(n, np, rights, i, r)
 }
@@ -142,7 +131,7 @@ fn returns_ok(n: usize, np: usize, rights: &[u8], i: usize, r: RightRecord) -> b
     match kind {
         Kind::Direct | Kind::Project => diversion_ok(n, np, rights, i, r),
         Kind::Instream | Kind::Storage => {
-            both(both(r.efficiency == 0, r.pattern == 255), r.points == 0)
+            (r.efficiency == 0) & (r.pattern == 255) & (r.points == 0)
         }
     }
 }
@@ -152,15 +141,9 @@ fn unused_ok(rights: &[u8], i: usize, points: usize) -> bool
     requires { i < right_count rights.now }
     ensures { result ≡ unused_ok rights.now i points }
 {
-    let mut all = true;
-    for k in 0..4 {
-        let zero = both(
-            return_row(rights, i, k) == 0,
-            return_percent(rights, i, k) == 0,
-        );
-        all = both(all, either(k < points, zero));
-    }
-    all
+    all_below(4, |k| {
+        (k < points) | ((return_row(rights, i, k) == 0) & (return_percent(rights, i, k) == 0))
+    })
 }
 
 fn amounts_ok(rights: &[u8], i: usize) -> bool
@@ -174,7 +157,7 @@ fn amounts_ok(rights: &[u8], i: usize) -> bool
 fn is_earlier(a: RightRecord, b: RightRecord) -> bool
     ensures { result ≡ earlier a b }
 {
-    either(a.date < b.date, both(a.date == b.date, a.permit < b.permit))
+    (a.date, a.permit) < (b.date, b.permit)
 }
 
 // The first right has none before it.
@@ -182,10 +165,7 @@ fn right_rises(rights: &[u8], i: usize) -> bool
     requires { i < right_count rights.now }
     ensures { result ≡ right_rises rights.now i }
 {
-    if i == 0 {
-        return true;
-    }
-    is_earlier(right_at(rights, i - 1), right_at(rights, i))
+    i == 0 || is_earlier(right_at(rights, i - 1), right_at(rights, i))
 }
 
 // All rules of one right; np is the number of patterns.
@@ -209,10 +189,9 @@ pub fn right_ok(
     if !heading_ok(n, r) {
         return false;
     }
-    let ruled = both(
-        source_ok(below, reservoirs, r),
-        returns_ok(n, np, rights, i, r),
-    );
-    let paired = both(ruled, unused_ok(rights, i, index(r.points)));
-    both(both(paired, amounts_ok(rights, i)), right_rises(rights, i))
+    source_ok(below, reservoirs, r)
+        & returns_ok(n, np, rights, i, r)
+        & unused_ok(rights, i, usize::from(r.points))
+        & amounts_ok(rights, i)
+        & right_rises(rights, i)
 }

@@ -4,7 +4,7 @@ ghost use Rattle.records.specs.Records.{rows_of};
 ghost use Rattle.filerules.specs.FileRules.{number_rises, station_plain};
 
 use numbers::bytes::three_zeros;
-use numbers::{both, byte32, in_range};
+use numbers::in_range;
 use records::stations::station_at;
 
 // The first row has none before it.
@@ -12,12 +12,7 @@ fn number_rises(stations: &[u8], row: usize) -> bool
     requires { row < rows_of stations.now }
     ensures { result ≡ number_rises stations.now row }
 {
-    if row == 0 {
-        return true;
-    }
-    let before = station_at(stations, row - 1);
-    let here = station_at(stations, row);
-    before.number < here.number
+    row == 0 || station_at(stations, row - 1).number < station_at(stations, row).number
 }
 
 // The rules that need no other row than the one before.
@@ -26,7 +21,8 @@ pub fn plain_ok(stations: &[u8], row: usize) -> bool
     ensures { result ≡ station_plain stations.now row }
 {
     let x = station_at(stations, row);
-    let numbered = both(in_range(1, x.number, 999999), number_rises(stations, row));
-    let ordered = both(numbered, in_range(1, byte32(x.order), 8));
-    both(ordered, three_zeros(stations, 8 * row + 5))
+    in_range(1, x.number, 999999)
+        & number_rises(stations, row)
+        & in_range(1, u32::from(x.order), 8)
+        & three_zeros(stations, 8 * row + 5)
 }

@@ -1,16 +1,13 @@
 -- `filerules::rights::at_reservoir` meets its contract. Assumes nothing.
-use mathlib.Core.Path.{sym, ap, ◌∙◌}
-use native.Mathlib.Omega.{arith}
-use lib.Dec.{eqb}
-use Rattle.records.specs.declared.reservoirs.ReservoirRecord.{ReservoirRecord}
-use Rattle.filerules.proofs.Cases.{at_none, at_one}
+use borrow.Author.Tests.{lt-ltb, le-ltb}
+use Rattle.general.specs.Tests.{◌and◌}
+use Rattle.filerules.specs.FileRules.{at_reservoir}
 use Rattle.filerules.proofs.rights.at_reservoir.Goals as goal
 
-pub returns-then-reservoirs-v : goal.returns-then-reservoirs-v
-returns-then-reservoirs-v c = let a = c.args in sym (at_none a.reservoirs.now a.v a.row (omega arith))
+pub returns-then-v-reservoirs : goal.returns-then-v-reservoirs
+unfolding at_reservoir ◌and◌
+returns-then-v-reservoirs c = rw (lt-ltb _ _ c.if-v-reservoirs.true) (cc)
 
-pub returns : goal.returns
-returns c =
-    let a = c.args in
-    let e = ap (λ (x : ReservoirRecord). x.row) c.reservoir_at-behind.ensures in
-    ap (eqb a.row) e ∙ sym (at_one a.reservoirs.now a.v a.row (omega arith))
+pub returns-else-v-reservoirs : goal.returns-else-v-reservoirs
+unfolding at_reservoir ◌and◌
+returns-else-v-reservoirs c = rw (le-ltb _ _ c.if-v-reservoirs.false)

@@ -1,7 +1,5 @@
 -- `filerules::rights::returns_ok` meets its contract. Assumes nothing.
-use mathlib.Core.Bool.{Bool}
-use mathlib.Core.Path.{◌≡◌, ap, ◌∙◌}
-use lib.Dec.{eqb}
+use Rattle.std.proofs.Common.{◌≡◌, refl}
 use Rattle.general.specs.Tests.{◌and◌}
 use Rattle.records.proofs.KindArms.{direct-or-project, instream-or-storage}
 use Rattle.filerules.specs.FileRules.{undiverted_ok, returns_ok}
@@ -15,8 +13,7 @@ returns-in-Direct c =
     direct-or-project (λ k. c.diversion_ok.result ≡ returns_ok k a.n a.np a.rights.now a.i a.r) e e a.r.kind c.in-Direct.is
 
 pub returns-in-Instream : goal.returns-in-Instream
-unfolding returns_ok undiverted_ok
+unfolding returns_ok undiverted_ok ◌and◌
 returns-in-Instream c =
     let a = c.args in
-    let e = c.both-in-Instream.ensures ∙ ap (λ (x : Bool). x and eqb a.r.points 0) c.both.ensures in
-    instream-or-storage (λ k. c.both-in-Instream.result ≡ returns_ok k a.n a.np a.rights.now a.i a.r) e e a.r.kind c.in-Instream.is
+    instream-or-storage (λ k. undiverted_ok a.r ≡ returns_ok k a.n a.np a.rights.now a.i a.r) refl refl a.r.kind c.in-Instream.is
