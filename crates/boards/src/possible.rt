@@ -9,7 +9,7 @@ ghost use Rattle.boards.specs.Board.{possible};
 ghost use Rattle.boards.specs.Bodies.{storage_most, taken_most, storages_ok, held_ok, taken_ok, row_ok, dues_ok, words_ok, have_bits, Sized};
 
 use numbers::bytes::le32;
-use numbers::{both, power, wide_size, wide32};
+use numbers::{all_below, power};
 use places::board::{
     BOARD_LENGTH, DUES, MARKS, MONTH, MONTHS_DUE, WORDS, due_place, dues_of, storage_place,
     taken_place, word_place,
@@ -23,18 +23,17 @@ fn storage_most(reservoirs: &[u8], v: usize) -> u64
     if reservoirs.len() / 68 <= v {
         return 0;
     }
-    wide32(le32(reservoirs, 68 * v + 4))
+    u64::from(le32(reservoirs, 68 * v + 4))
 }
 
 fn storages_ok(reservoirs: &[u8], board: &[u64]) -> bool
     requires { length board.now ≡ board_length }
     ensures { result ≡ storages_ok reservoirs.now board.now }
 {
-    let mut all = true;
-    for v in 0..8 {
-        all = both(all, board[storage_place(v)] <= storage_most(reservoirs, v));
-    }
-    all
+    all_below(
+        8,
+        |v| board[storage_place(v)] <= storage_most(reservoirs, v),
+    )
 }
 
 // The yearly limit of a right, or 0 where there is none. Of the record only these four bytes are read.
@@ -44,7 +43,7 @@ fn taken_most(rights: &[u8], i: usize) -> u64
     if rights.len() / 76 <= i {
         return 0;
     }
-    wide32(le32(rights, 76 * i + 16))
+    u64::from(le32(rights, 76 * i + 16))
 }
 
 // Each right within its limit.
@@ -52,12 +51,9 @@ fn held_ok(rights: &[u8], board: &[u64]) -> bool
     requires { (length board.now ≡ board_length) × (right_count rights.now ≤ 256) }
     ensures { result ≡ held_ok rights.now board.now }
 {
-    let n = rights.len() / 76;
-    let mut all = true;
-    for i in 0..n {
-        all = both(all, board[taken_place(i)] <= taken_most(rights, i));
-    }
-    all
+    all_below(rights.len() / 76, |i| {
+        board[taken_place(i)] <= taken_most(rights, i)
+    })
 }
 
 // All numbers from one place to another joined by `or`: they have k bits if each of them has. No number is looked at by itself, since a small
@@ -82,7 +78,7 @@ fn taken_ok(rights: &[u8], board: &[u64]) -> bool
     ensures { result ≡ taken_ok rights.now board.now }
 {
     let unused = joined(board, taken_place(rights.len() / 76), DUES);
-    both(held_ok(rights, board), unused < 1)
+    held_ok(rights, board) & (unused < 1)
 }
 
 // What can be due k months after next month: what 11 - k past months have sent.
@@ -97,22 +93,14 @@ fn row_ok(board: &[u64], w: usize) -> bool
     requires { (length board.now ≡ board_length) × (w < 64) }
     ensures { result ≡ row_ok board.now w }
 {
-    let mut all = true;
-    for k in 0..MONTHS_DUE {
-        all = both(all, board[due_place(w, k)] <= due_most(k));
-    }
-    all
+    all_below(MONTHS_DUE, |k| board[due_place(w, k)] <= due_most(k))
 }
 
 fn each_row_ok(n: usize, board: &[u64]) -> bool
     requires { (length board.now ≡ board_length) × (n ≤ 64) }
     ensures { result ≡ all_to n (row_ok board.now) }
 {
-    let mut all = true;
-    for w in 0..n {
-        all = both(all, row_ok(board, w));
-    }
-    all
+    all_below(n, |w| row_ok(board, w))
 }
 
 // No due of 37 bits is too large, so that a board is seldom looked at row by row.
@@ -132,7 +120,7 @@ fn dues_ok(n: usize, board: &[u64]) -> bool
     ensures { result ≡ dues_ok n board.now }
 {
     let unused = joined(board, dues_of(n), WORDS);
-    both(rows_ok(n, board), unused < 1)
+    rows_ok(n, board) & (unused < 1)
 }
 
 // Twelve bits for each of the n rights; zeros past them.
@@ -143,7 +131,7 @@ fn words_ok(n: usize, board: &[u64]) -> bool
     let end = word_place(n);
     let used = joined(board, WORDS, end);
     let unused = joined(board, end, BOARD_LENGTH);
-    both(used < 4096, unused < 1)
+    (used < 4096) & (unused < 1)
 }
 
 // A possible board: a month of the year, no storage above capacity, no mark without a reservoir, no right above its limit, no due above what
@@ -152,12 +140,10 @@ pub fn is_possible(bodies: &Bodies<'_>, board: &[u64]) -> bool
     requires { Sized bodies.now board.now }
     ensures { result ≡ possible (basin_in bodies.now) board.now }
 {
-    let stored = both(board[MONTH] < 12, storages_ok(bodies.reservoirs, board));
-    let marked = both(
-        stored,
-        board[MARKS] < power(wide_size(bodies.reservoir_count())),
-    );
-    let taken = both(marked, taken_ok(bodies.rights, board));
-    let due = both(taken, dues_ok(bodies.rows(), board));
-    both(due, words_ok(bodies.right_count(), board))
+    (board[MONTH] < 12)
+        & storages_ok(bodies.reservoirs, board)
+        & (board[MARKS] < power(bodies.reservoir_count() as u64))
+        & taken_ok(bodies.rights, board)
+        & dues_ok(bodies.rows(), board)
+        & words_ok(bodies.right_count(), board)
 }

@@ -4,39 +4,21 @@ ghost use Rattle.general.specs.Sums.{sum_to};
 ghost use Rattle.places.specs.Board.{storage_at, due_at};
 ghost use Rattle.boards.specs.Bodies.{Bounded};
 
-use places::board::{MONTHS_DUE, due_place, storage_place};
+use places::board::{DUES, dues_of, storage_place};
 
 // A possible board stores at most eight full reservoirs, so the sum fits.
 pub fn storage_sum(n: usize, board: &[u64]) -> u64
     requires { (n ≤ 8) × Bounded board.now }
     ensures { result ≡ sum_to n (storage_at board.now) }
 {
-    let mut sum = 0;
-    for v in 0..n {
-        sum += board[storage_place(v)];
-    }
-    sum
+    let first = storage_place(0);
+    board[first..first + n].iter().sum()
 }
 
-// All that is due at one row.
-fn row_due(board: &[u64], w: usize) -> u64
-    requires { (w < 64) × Bounded board.now }
-    ensures { (result ≡ sum_to 11 (λ k. due_at board.now w (suc k))) × (result ≤ 30976000000000) }
-{
-    let mut sum = 0;
-    for k in 0..MONTHS_DUE {
-        sum += board[due_place(w, k)];
-    }
-    sum
-}
-
+// The dues of a row stand one after the other, and the rows too.
 pub fn due_sum(n: usize, board: &[u64]) -> u64
     requires { (n ≤ 64) × Bounded board.now }
     ensures { result ≡ sum_to n (λ w. sum_to 11 (λ k. due_at board.now w (suc k))) }
 {
-    let mut sum = 0;
-    for w in 0..n {
-        sum += row_due(board, w);
-    }
-    sum
+    board[DUES..dues_of(n)].iter().sum()
 }

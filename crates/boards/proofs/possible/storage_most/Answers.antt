@@ -1,6 +1,5 @@
 -- `boards::possible::storage_most` meets its contract. Assumes nothing.
-use mathlib.Core.Path.{◌∙◌}
-use native.Mathlib.Omega.{arith}
+use Rattle.std.proofs.Common.{◌∙◌, arith}
 use Rattle.boards.proofs.Bodies.{no-storage, some-storage}
 use Rattle.boards.proofs.possible.storage_most.Goals as goal
 
@@ -8,4 +7,4 @@ pub returns-then-reservoirs-v : goal.returns-then-reservoirs-v
 returns-then-reservoirs-v c = no-storage _ _ c.if-reservoirs-v.true
 
 pub returns : goal.returns
-returns c = c.wide32.ensures.0 ∙ c.le32.ensures ∙ some-storage c.args.reservoirs.now _ (omega arith)
+returns c = c.from.ensures ∙ c.le32.ensures ∙ some-storage c.args.reservoirs.now _ (omega arith)

@@ -1,23 +1,36 @@
-use mathlib.Core.Path.{ap, ◌∙◌}
-use Prim.Native.Nat.{ℕ, ◌+◌}
-use native.Mathlib.Omega.{arith}
-use borrow.Author.Rules.{rules}
-use Rattle.general.proofs.Loops.{total-none, total-more}
+-- `boards::sums::due_sum` meets its contract. Assumes nothing.
+use Rattle.std.proofs.Common.{◌≡◌, ◌<◌, ◌≤◌, ◌∙◌, ◌-◌, ◌+◌, ◌*◌, ℕ, suc, List, sum, take, drop, get_or, rules, arith}
 use Rattle.general.specs.Sums.{sum_to}
-use Rattle.boards.proofs.sums.due_sum.Invariants.{due}
+use Rattle.general.proofs.Sums.{sum-part, sum_to-rows, sum_to-same, sum_to-most}
+use Rattle.places.specs.Board.{due_at}
+use Rattle.places.proofs.BoardPlaces.{place_read}
+use Rattle.boards.specs.Bodies.{Bounded}
 use Rattle.boards.proofs.sums.due_sum.Goals as goal
 
-pub loop-w-init : goal.loop-w-init
-loop-w-init c = (search rules, search rules, total-none _)
+-- all that is due at a row
+abbrev due : List ℕ → ℕ → ℕ
+due l w = sum_to 11 (λ k. due_at l w (suc k))
 
-pub row_due-sum-requires : goal.row_due-sum-requires
-row_due-sum-requires c = (omega arith, c.requires.1)
+-- the dues of n rows, which stand next to each other
+told : (l : List ℕ) (n m : ℕ) → Bounded l → n ≤ 64 → m ≡ 11 * n → sum (take m (drop 266 l)) ≡ sum_to n (due l)
+told l n m b h e =
+    rw e (sum-part l 266 (11 * n) (omega (arith, b.long)) ∙ sum_to-rows 11 n (λ j. get_or l (266 + j) 0)
+    ∙ sum_to-same n _ (due l) (λ w _. sum_to-same 11 _ _ (λ k _. place_read l (omega arith))))
 
-pub overflow_add-sum : goal.overflow_add-sum
-overflow_add-sum c = omega (arith, c.row_due-sum.ensures.1)
+most : (l : List ℕ) (n : ℕ) → Bounded l → n ≤ 64 → sum_to n (due l) ≤ 30976000000000 * n
+most l n b h = sum_to-most n 30976000000000 (due l) (λ w o. sum_to-most 11 2816000000000 (λ k. due_at l w (suc k)) (λ k p. b.dues w k (omega arith) p))
 
-pub loop-w-preserved : goal.loop-w-preserved
-loop-w-preserved c = (omega arith, omega (arith, c.row_due-sum.ensures.1), ap (λ (x : ℕ). c.loop-w.sum + x) c.row_due-sum.ensures.0 ∙ total-more (due c.args.board.now) c.loop-w.w _ c.loop-w.invariant.2)
+pub sum-requires-clause-fits : goal.sum-requires-clause-fits
+sum-requires-clause-fits c =
+    let n = c.args.n in
+    let l = c.args.board.now in
+    let m = c.dues_of.result - 266 in
+    let fits : sum (take m (drop 266 l)) < 18446744073709551616 = omega (arith, told l n m c.requires.1 (omega arith) (omega arith), most l n c.requires.1 (omega arith)) in
+    search (rules, fits)
 
 pub returns : goal.returns
-returns c = c.loop-w.invariant.2 ∙ ap (λ (k : ℕ). sum_to k (due c.args.board.now)) (omega arith)
+returns c =
+    let l = c.args.board.now in
+    let m = c.dues_of.result - 266 in
+    let e : c.sum.result ≡ sum (take m (drop 266 l)) = search rules in
+    e ∙ told l c.args.n m c.requires.1 (omega arith) (omega arith)

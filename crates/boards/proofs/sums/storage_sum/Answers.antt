@@ -1,27 +1,21 @@
-use mathlib.Core.Path.{ap, ◌∙◌}
-use Prim.Native.Nat.{ℕ, ◌+◌}
-use native.Mathlib.Omega.{arith}
-use borrow.Author.Rules.{rules}
-use Rattle.general.proofs.Loops.{total-none, total-more}
-use Rattle.general.specs.Sums.{sum_to}
+-- `boards::sums::storage_sum` meets its contract. Assumes nothing.
+use Rattle.std.proofs.Common.{◌≡◌, ◌<◌, ◌∙◌, sum, take, drop, rules, arith}
+use Rattle.general.proofs.Sums.{sum-part, sum_to-most}
 use Rattle.places.specs.Board.{storage_at}
-use Rattle.places.proofs.BoardPlaces.{place_read}
 use Rattle.boards.proofs.sums.storage_sum.Goals as goal
 
-pub loop-v-init : goal.loop-v-init
-loop-v-init c = (search rules, search rules, total-none _)
-
-pub bounds-board-storage_place : goal.bounds-board-storage_place
-bounds-board-storage_place c = omega (arith, c.requires.1.long)
-
-pub overflow_add-sum : goal.overflow_add-sum
-overflow_add-sum c = omega (arith, place_read c.args.board.now c.storage_place.ensures, c.requires.1.storages c.loop-v.v (omega arith))
-
-pub loop-v-preserved : goal.loop-v-preserved
-loop-v-preserved c =
-    let e = place_read c.args.board.now c.storage_place.ensures in
-    let h = c.requires.1.storages c.loop-v.v (omega arith) in
-    (omega arith, omega (arith, e, h), ap (λ (x : ℕ). c.loop-v.sum + x) e ∙ total-more (storage_at c.args.board.now) _ _ c.loop-v.invariant.2)
+pub sum-requires-clause-fits : goal.sum-requires-clause-fits
+sum-requires-clause-fits c =
+    let n = c.args.n in
+    let l = c.args.board.now in
+    let part = sum-part l 1 n (omega (arith, c.requires.1.long)) in
+    let most = sum_to-most n 2000000000 (storage_at l) (λ v h. c.requires.1.storages v (omega arith)) in
+    let fits : sum (take n (drop 1 l)) < 18446744073709551616 = omega (arith, part, most) in
+    search (rules, fits)
 
 pub returns : goal.returns
-returns c = c.loop-v.invariant.2 ∙ ap (λ (k : ℕ). sum_to k (storage_at c.args.board.now)) (omega arith)
+returns c =
+    let n = c.args.n in
+    let l = c.args.board.now in
+    let e : c.sum.result ≡ sum (take n (drop 1 l)) = search rules in
+    e ∙ sum-part l 1 n (omega (arith, c.requires.1.long))
