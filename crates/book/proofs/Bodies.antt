@@ -1,21 +1,23 @@
 -- Laws of the book's layout, and of a year's place in its table. Assumes nothing.
-use Rattle.std.specs.Prelude.{Option}
+use Rattle.std.specs.Prelude.{Option, Some, None}
+use Rattle.std.specs.List.{find, range_with_len}
+use Rattle.std.specs.Option.{option_map}
+use Rattle.std.proofs.lemmas.Iterator.Adapters.{option_map_id}
 use mathlib.Core.Path.{◌≡◌, refl, sym, ap, ◌∙◌}
-use mathlib.Core.Bool.{Bool, true, false}
+use mathlib.Core.Bool.{Bool, false}
 use mathlib.Core.List.{List, []}
 use Prim.Native.Nat.{ℕ, ◌+◌, ◌-◌, ◌*◌, ◌≤◌, ◌<◌}
 use native.Mathlib.Nat.{mul-le-mul}
 use native.Mathlib.Omega.{arith}
 use borrow.Author.Tests.{le-leb, lt-leb, eq-eqb, ne_eqb}
-use lib.Dec.{ltb, eqb}
+use lib.Dec.{eqb}
 use lib.ListN.{length, take, drop, length-drop}
 use lib.Seq.{length-take-le}
-use Rattle.general.specs.Tests.{◌and◌, between, first_at, all_to}
+use Rattle.general.specs.Tests.{◌and◌, first_at, all_to}
 use Rattle.general.proofs.Tests.{both_of, eq_of, le_of}
-use Rattle.general.proofs.Search.{all-at}
-use Rattle.general.proofs.Loops.{search-here, search-on, search-over, step-within}
-use Rattle.numbers.specs.Bytes.{le32_at}
-use Rattle.book.specs.Book.{most_years, first_year, last_year, year_count, entry_at, year_at, offset_at, body_size, packed_at, rises, entry_ok, book_ok, listed_at, body_of, body_where, listed_body, Kept}
+use Rattle.general.proofs.Search.{all-at, found-first, first-within}
+use Rattle.general.proofs.Loops.{step-within}
+use Rattle.book.specs.Book.{most_years, year_count, entry_at, year_at, offset_at, body_size, packed_at, entry_ok, book_ok, listed_at, body_of, body_where, listed_body, Kept}
 
 -- ---- sizes
 
@@ -30,29 +32,6 @@ packed-is n k i = refl
 pub packed-read : (n : ℕ) (k : List ℕ) (i : ℕ) {c t s : ℕ} → c ≡ year_count k → t ≡ entry_at c → s ≡ body_size n → t + s * i ≡ packed_at n k i
 unfolding packed_at
 packed-read n k i ec et es = λ z. (et ∙ ap entry_at ec) z + es z * i
-
--- ---- an entry
-
-pub year-read : (k : List ℕ) (i : ℕ) {t x : ℕ} → t ≡ entry_at i → x ≡ le32_at k t → x ≡ year_at k i
-unfolding year_at
-year-read k i e h = h ∙ ap (le32_at k) e
-
-pub offset_read : (k : List ℕ) (i : ℕ) {t x : ℕ} → t ≡ entry_at i → x ≡ le32_at k (t + 4) → x ≡ offset_at k i
-unfolding offset_at
-offset_read k i e h = h ∙ ap (λ (p : ℕ). le32_at k (p + 4)) e
-
-pub rises-first : (k : List ℕ) (i : ℕ) → i ≡ 0 → true ≡ rises k i
-unfolding rises
-rises-first k i e = rw e
-
-pub rises-above : (k : List ℕ) (i : ℕ) {x y : ℕ} → (i ≡ 0 → ⊥) → x ≡ year_at k (i - 1) → y ≡ year_at k i → ltb x y ≡ rises k i
-unfolding rises
-rises-above k i h ex ey = rw (ne_eqb i 0 h, ex, ey)
-
-pub entry_read : (n : ℕ) (k : List ℕ) (i : ℕ) {y o p : ℕ} {b₁ b₂ b₃ b₄ : Bool}
-    → y ≡ year_at k i → b₁ ≡ between first_year y last_year → b₂ ≡ rises k i → b₃ ≡ (b₁ and b₂) → o ≡ offset_at k i → p ≡ packed_at n k i → b₄ ≡ (b₃ and eqb o p) → b₄ ≡ entry_ok n k i
-unfolding entry_ok
-entry_read n k i e₁ e₂ e₃ e₄ e₅ e₆ e₇ = cc
 
 -- ---- the layout, test by test
 
@@ -118,20 +97,21 @@ module _ (n : ℕ) (k : List ℕ) where
 
   -- ---- the search
 
-  abbrev pub body_from : ℕ → ℕ → ℕ → List ℕ
-  body_from y c i = body_where (first_at (c - i) i (λ j. eqb (year_at k j) y)) n k
-
-  pub from_start : (y c : ℕ) → c ≡ year_count k → body_from y c 0 ≡ listed_body n k y
+  pub listed-within : (y i : ℕ) → listed_at k y ≡ Some i → i < year_count k
   unfolding listed_at
-  from_start y c e = let g : c - 0 ≡ year_count k = omega arith in ap (λ (x : ℕ). body_where (first_at x 0 (λ j. eqb (year_at k j) y)) n k) g
+  listed-within y i e = omega (arith, first-within (λ j. eqb (year_at k j) y) (year_count k) 0 i e)
 
-  pub from-here : (y c i : ℕ) {x : ℕ} → i < c → x ≡ year_at k i → x ≡ y → body_of n k i ≡ body_from y c i
+  pub listed_body_one : (y i : ℕ) → listed_at k y ≡ Some i → body_of n k i ≡ listed_body n k y
   unfolding body_where
-  from-here y c i l e h = rw (search-here (λ j. eqb (year_at k j) y) c i l (eq-eqb (year_at k i) y (sym e ∙ h)))
+  listed_body_one y i e = rw e
 
-  pub from_next : (y c i : ℕ) {x : ℕ} → i < c → x ≡ year_at k i → (x ≡ y → ⊥) → body_from y c (i + 1) ≡ body_from y c i
-  from_next y c i l e h = sym (ap (λ (o : Option ℕ). body_where o n k) (search-on (λ j. eqb (year_at k j) y) c i l (ne_eqb (year_at k i) y (λ z. h (e ∙ z)))))
-
-  pub from_end : (y c i : ℕ) → c ≤ i → [] ≡ body_from y c i
+  pub listed_body_none : (y : ℕ) → listed_at k y ≡ None → [] ≡ listed_body n k y
   unfolding body_where
-  from_end y c i l = rw (search-over (λ j. eqb (year_at k j) y) c i l)
+  listed_body_none y e = rw e
+
+-- a year's place as the library's search over the table finds it
+pub listed : (k : List ℕ) (y c : ℕ) {r : Option ℕ} → c ≡ year_count k → option_map (λ x. x) r ≡ find (λ j. eqb (year_at k j) y) (range_with_len 0 c) → r ≡ listed_at k y
+unfolding listed_at
+listed k y c {r} e f =
+    let t : ℕ → Bool = λ j. eqb (year_at k j) y in
+    sym (option_map_id r) ∙ f ∙ found-first t c 0 ∙ ap (λ (n : ℕ). first_at n 0 t) e

@@ -4,7 +4,7 @@ ghost use Rattle.general.specs.Tests.{all_to};
 ghost use Rattle.book.specs.Book.{most_years, year_count, entry_at, year_at, offset_at, body_size, packed_at, rises, entry_ok, book_ok, listed_body, body_of, Kept, Headed};
 
 use numbers::bytes::le32;
-use numbers::{both, in_range, size};
+use numbers::{all_below, in_range};
 
 const MOST_YEARS: usize = 20;
 
@@ -16,7 +16,7 @@ fn year_count(book: &[u8]) -> usize
     requires { 4 ≤ length book.now }
     ensures { result ≡ year_count book.now }
 {
-    size(le32(book, 0))
+    le32(book, 0) as usize
 }
 
 // Where entry i of the table starts, or the table ends.
@@ -38,7 +38,7 @@ fn offset_at(book: &[u8], i: usize) -> usize
     requires { (i < most_years) × (entry_at (i + 1) ≤ length book.now) }
     ensures { result ≡ offset_at book.now i }
 {
-    size(le32(book, entry_at(i) + 4))
+    le32(book, entry_at(i) + 4) as usize
 }
 
 // A sheet for each of twelve months: a number of four bytes for each station.
@@ -61,21 +61,16 @@ fn is_rising(book: &[u8], i: usize) -> bool
     requires { (i < most_years) × (entry_at (i + 1) ≤ length book.now) }
     ensures { result ≡ rises book.now i }
 {
-    if i == 0 {
-        return true;
-    }
-    year_at(book, i - 1) < year_at(book, i)
+    i == 0 || year_at(book, i - 1) < year_at(book, i)
 }
 
 fn entry_ok(rows: usize, book: &[u8], i: usize) -> bool
     requires { Headed rows book.now × (i < most_years) × (entry_at (i + 1) ≤ length book.now) }
     ensures { result ≡ entry_ok rows book.now i }
 {
-    let year = both(
-        in_range(FIRST_YEAR, year_at(book, i), LAST_YEAR),
-        is_rising(book, i),
-    );
-    both(year, offset_at(book, i) == packed_at(rows, book, i))
+    in_range(FIRST_YEAR, year_at(book, i), LAST_YEAR)
+        & is_rising(book, i)
+        & (offset_at(book, i) == packed_at(rows, book, i))
 }
 
 // All entries are looked at, as all records of a basin file are.
@@ -83,11 +78,7 @@ fn entries_ok(rows: usize, book: &[u8], count: usize) -> bool
     requires { Headed rows book.now × (count ≤ most_years) × (entry_at count ≤ length book.now) }
     ensures { result ≡ all_to count (entry_ok rows book.now) }
 {
-    let mut all = true;
-    for i in 0..count {
-        all = both(all, entry_ok(rows, book, i));
-    }
-    all
+    all_below(count, |i| entry_ok(rows, book, i))
 }
 
 // Whether the bytes keep the layout of a book for so many stations.
@@ -123,11 +114,8 @@ pub fn listed_body<'a>(rows: usize, book: &'a [u8], year: u32) -> &'a [u8]
     requires { Kept rows book.now }
     ensures { result.now ≡ listed_body rows book.now year }
 {
-    let count = year_count(book);
-    for i in 0..count {
-        if year_at(book, i) == year {
-            return body_at(rows, book, i);
-        }
-    }
-    &book[..0]
+    let Some(i) = (0..year_count(book)).find(|&i| year_at(book, i) == year) else {
+        return &book[..0];
+    };
+    body_at(rows, book, i)
 }

@@ -1,9 +1,12 @@
 -- `book::contents::is_rising` meets its contract. Assumes nothing.
-use Rattle.book.proofs.Bodies.{rises-first, rises-above}
+use borrow.Author.Tests.{eq-eqb, ne_eqb}
+use Rattle.book.specs.Book.{rises}
 use Rattle.book.proofs.contents.is_rising.Goals as goal
 
 pub returns-then-i-eq0 : goal.returns-then-i-eq0
-returns-then-i-eq0 c = rises-first c.args.book.now _ c.if-i-eq0.true
+unfolding rises
+returns-then-i-eq0 c = rw (eq-eqb _ _ c.if-i-eq0.true)
 
-pub returns : goal.returns
-returns c = rises-above c.args.book.now _ c.if-i-eq0.false c.year_at.ensures c.year_at-2.ensures
+pub returns-else-i-eq0 : goal.returns-else-i-eq0
+unfolding rises
+returns-else-i-eq0 c = rw (ne_eqb _ _ c.if-i-eq0.false) (cc)

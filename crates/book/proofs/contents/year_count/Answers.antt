@@ -1,8 +1,7 @@
 -- `book::contents::year_count` meets its contract. Assumes nothing.
-use mathlib.Core.Path.{◌∙◌}
 use Rattle.book.specs.Book.{year_count}
 use Rattle.book.proofs.contents.year_count.Goals as goal
 
 pub returns : goal.returns
 unfolding year_count
-returns c = c.size.ensures.0 ∙ c.le32.ensures
+returns c = c.le32.ensures
