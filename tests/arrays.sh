@@ -28,7 +28,7 @@ told() {
 spare=$(mktemp -d)
 trap 'rm -rf "$spare"' EXIT
 cp -r crates/opening "$spare"
-sed -i 's/^    let n = runoff.len();/    let mut entering = [0u64; 64];\n&/' "$spare/opening/src/flows.rt"
+sed -i 's/^    for (row, &water) in/    let mut entering = [0u64; 64];\n&/' "$spare/opening/src/flows.rt"
 diff <(arrays "$spare") <(echo 'opening/src/flows.rt entering = [0u64; 64]')
 
 diff <(arrays crates) <(told) || { echo "docs/PERFORMANCE.md: < not told, > not there" >&2; exit 1; }

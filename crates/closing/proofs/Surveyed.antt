@@ -1,20 +1,16 @@
 -- The area at a storage, found pair after pair of the table.
 use mathlib.Core.List.{List, ◌∷◌}
 use mathlib.Core.Path.{◌≡◌, ap, ◌∙◌}
-use Prim.Native.Nat.{ℕ, suc, ◌+◌, ◌-◌, ◌≤◌, ◌<◌}
+use Prim.Native.Nat.{ℕ, suc, ◌+◌, ◌≤◌, ◌<◌}
 use native.Mathlib.Omega.{arith}
 use lib.ListN.{drop}
 use Rattle.general.specs.Tables.{tab}
 use Rattle.general.proofs.Lists.{drop_at}
 use Rattle.general.proofs.Tables.{tab-at, tab-length}
 use Rattle.rules.specs.Basin.{Survey, no_survey}
-use Rattle.rules.specs.Month.{towards, on_line, area_from, area_at}
+use Rattle.rules.specs.Month.{on_line, area_from, area_at}
 use Rattle.rules.proofs.Areas.{before-next, from_next, before_first, from_first}
 use Rattle.records.specs.Records.{content_at, survey_of, reservoir_of}
-
--- the numbers of two pairs, as they were read
-pub line_of : {p q : Survey} {a b low high : ℕ} → a ≡ p.area → b ≡ q.area → (x : ℕ) → low ≡ p.content → high ≡ q.content → towards a b (x - low) (high - low) ≡ on_line p q x
-line_of ea eb x el eh = λ i. towards (ea i) (eb i) (x - el i) (eh i - el i)
 
 module _ (rs : List ℕ) (v x : ℕ) where
   abbrev pair : ℕ → Survey

@@ -3,7 +3,7 @@ use mathlib.Core.Bool.{Bool, true, false, cond, ◌||◌}
 use mathlib.Core.List.{List, [], ◌∷◌}
 use mathlib.Core.Logic.{◌≢◌}
 use mathlib.Core.Path.{◌≡◌, refl, sym, ap, ◌∙◌}
-use Prim.Native.Nat.{ℕ, ◌*◌, ◌≤◌, ◌<◌, min}
+use Prim.Native.Nat.{ℕ, ◌*◌, ◌≤◌, ◌<◌}
 use native.Mathlib.Nat.{le_refl}
 use native.Mathlib.Decide.{dec_lt}
 use native.Mathlib.Omega.{arith}
@@ -26,9 +26,7 @@ use Rattle.records.specs.Table.{path_by}
 use Rattle.river.specs.Arrays.{seen_on}
 use Rattle.records.proofs.Table.{by-self}
 use Rattle.river.proofs.Table.{by_in}
-use Rattle.grants.specs.declared.grants.Reason.{Reason}
-use Rattle.grants.specs.declared.grants.Reason.TheVariants.{Called, RiverLow}
-use Rattle.grants.specs.Grants.{CanSee, seen_by, part_of, reason_of, RiverGave}
+use Rattle.grants.specs.Grants.{CanSee, seen_by}
 use Rattle.grants.specs.Stages.{is_instream}
 
 pub number_is : (s : List ℕ) (row : ℕ) → row < rows_of s → number_at (stations_of s) row ≡ le32_at s (8 * row)
@@ -142,25 +140,3 @@ seen-along Direct t a sh row e = refl
 seen-along Project t a sh row e = refl
 seen-along Instream t a sh row e = absurd-bool refl e
 seen-along Storage t a sh row e = refl
-
-part-zero : (a : List ℕ) (s : Seen) → 0 ≡ part_of a 0 s
-unfolding part_of
-part-zero a (seen.Called q) = refl
-part-zero a (seen.Low q) = omega arith
-
-module _ (st t a : List ℕ) (sh : List Bool) (kind : Kind) (row demand : ℕ) where
-  pub gave-nothing : demand ≡ 0 → (r : Reason) → RiverGave st t a sh kind row demand (record { part = 0; reason = r })
-  gave-nothing e r = record { part = rw e (part-zero a (seen_by kind t a sh row)); reason = λ l. absurd (omega arith) }
-
-  pub gave-instream : (x n : ℕ) → kind ≡ Instream → x ≡ min demand (get_or a row 0) → n ≡ number_at (stations_of st) row → RiverGave st t a sh kind row demand (record { part = x; reason = RiverLow n })
-  unfolding part_of reason_of
-  gave-instream x n k e f = record { part = rw k e; reason = λ _. rw k (ap (λ (y : ℕ). RiverLow y) f) }
-
-  module _ (k : is_instream kind ≡ false) (s : Seen) (look : s ≡ seen_on sh a row (path_by t row)) where
-    pub gave-called : (q n : ℕ) → s ≡ seen.Called q → n ≡ number_at (stations_of st) q → RiverGave st t a sh kind row demand (record { part = 0; reason = Called n })
-    unfolding part_of reason_of
-    gave-called q n e f = record { part = rw (seen-along kind t a sh row k, ← look, e); reason = λ _. rw (seen-along kind t a sh row k, ← look, e) (ap (λ (y : ℕ). Called y) f) }
-
-    pub gave-low : (q n x : ℕ) → s ≡ seen.Low q → x ≡ min demand (get_or a q 0) → n ≡ number_at (stations_of st) q → RiverGave st t a sh kind row demand (record { part = x; reason = RiverLow n })
-    unfolding part_of reason_of
-    gave-low q n x e g f = record { part = rw (seen-along kind t a sh row k, ← look, e) g; reason = λ _. rw (seen-along kind t a sh row k, ← look, e) (ap (λ (y : ℕ). RiverLow y) f) }

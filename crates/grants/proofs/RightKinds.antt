@@ -1,5 +1,4 @@
 -- The stages of a turn, kind by kind. Assumes nothing.
-use mathlib.Core.Bool.{true, false}
 use mathlib.Core.List.{List, [], ◌∷◌}
 use mathlib.Core.Path.{◌≡◌, refl, sym, ◌∙◌}
 use Prim.Native.Nat.{ℕ, ◌+◌, ◌-◌, ◌^◌, ◌≤◌, ◌<◌, min}
@@ -7,33 +6,20 @@ use native.Mathlib.Nat.{pow-le-pow_right}
 use native.Mathlib.Omega.{arith}
 use lib.ListN.{length, get_or, set, length-set}
 use lib.Seq.{get_or-set_other, set-get_or}
-use Rattle.general.proofs.Tests.{absurd-bool}
 use Rattle.places.specs.Board.{storage_place, marks_place, taken_place, storage_at, marks_at, taken_at}
 use Rattle.rules.specs.Path.{until_row}
 use Rattle.rules.specs.River.{diverted, reserved, released}
-use Rattle.general.specs.Tests.{bit}
 use Rattle.records.specs.declared.rights.Kind.{Kind}
 use Rattle.records.specs.declared.rights.Kind.TheVariants.{Direct, Project, Instream, Storage}
-use Rattle.records.specs.Records.{right_record, amount_at}
 use Rattle.records.specs.Table.{path_by}
-use Rattle.river.specs.Arrays.{levels_of, Walked, Raised}
+use Rattle.river.specs.Arrays.{levels_of}
 use Rattle.river.proofs.Levels.{walk-done, change-idle, available-here, available-other, reserved-level, diverted-zero, reserved-zero, released-zero}
-use Rattle.grants.specs.Stages.{is_instream, amount_in, levels_taken, Taken, drawn_in, board_drawn, levels_released, home_row, Drawn}
+use Rattle.grants.specs.Stages.{levels_taken, Taken, drawn_in, board_drawn, levels_released, home_row, Drawn}
 
 -- ---- the mark of one of eight reservoirs
 
 pub mark-small : (v : ℕ) → v < 8 → 2 ^ v ≤ 128
 mark-small v h = pow-le-pow_right {n = 2} (omega arith) {i = v} {j = 7} (omega (arith, h))
-
--- ---- the demand
-
-pub amount-yes : (ri : List ℕ) (i m x y t : ℕ) → t ≡ (right_record ri i).months → bit t m ≡ true → x ≡ amount_at ri i m → x ≡ amount_in ri i m
-unfolding amount_in
-amount-yes ri i m x y t e f g = rw (← e, f) g
-
-pub amount-no : (ri : List ℕ) (i m t : ℕ) → t ≡ (right_record ri i).months → bit t m ≡ false → 0 ≡ amount_in ri i m
-unfolding amount_in
-amount-no ri i m t e f = rw (← e, f)
 
 -- ---- the river part
 
@@ -57,17 +43,6 @@ module _ (d : ℕ) (t : List ℕ) (row : ℕ) (f a : List ℕ) where
     available_size = length-set a row (get_or a row 0 - d);
   }
 
-  module _ (f' a' : List ℕ) (w : Walked (diverted d) (path_by t row) f a f' a') where
-    along-path : (n : ℕ) (k : Kind) → is_instream k ≡ false → levels_of n f' a' ≡ levels_taken k d t row (levels_of n f a)
-    unfolding levels_taken
-    along-path n Direct e = w.levels n
-    along-path n Project e = w.levels n
-    along-path n Instream e = absurd-bool refl e
-    along-path n Storage e = w.levels n
-
-    pub taken-along : (k : Kind) → is_instream k ≡ false → Taken k t row d f a f' a'
-    taken-along k e = record { levels = λ n. along-path n k e; flow_size = w.flow_size; available_size = w.available_size }
-
 -- ---- the part from storage
 
 module _ (k : Kind) (t rs : List ℕ) (v row lacking : ℕ) (f bd : List ℕ) where
@@ -84,25 +59,6 @@ module _ (k : Kind) (t rs : List ℕ) (v row lacking : ℕ) (f bd : List ℕ) wh
           flow_size = refl;
         }
 
-    pub drawn-yes : (f' : List ℕ) (home : ℕ) → home ≡ home_row rs v → Raised (released x) (until_row row (path_by t home)) f f' → Drawn k t rs v row lacking f bd f' (set bd (storage_place v) (storage_at bd v - x)) x
-    unfolding drawn_in board_drawn levels_released
-    drawn-yes f' home eh h = record { amount = rw e ex; board = rw e; levels = λ n a. rw (e, ← eh) (h.levels n a); flow_size = h.flow_size }
-
--- of no other kind's
-module _ (t rs : List ℕ) (v row lacking : ℕ) (f bd : List ℕ) where
-  pub drawn-direct : Drawn Direct t rs v row lacking f bd f bd 0
-  unfolding drawn_in board_drawn levels_released
-  drawn-direct = record { amount = refl; board = refl; levels = λ n a. refl; flow_size = refl }
-
-  pub drawn-instream : Drawn Instream t rs v row lacking f bd f bd 0
-  unfolding drawn_in board_drawn levels_released
-  drawn-instream = record { amount = refl; board = refl; levels = λ n a. refl; flow_size = refl }
-
-  pub drawn-storage : Drawn Storage t rs v row lacking f bd f bd 0
-  unfolding drawn_in board_drawn levels_released
-  drawn-storage = record { amount = refl; board = refl; levels = λ n a. refl; flow_size = refl }
-
--- the word of marks is neither a storage nor a number taken
 -- the word of marks is apart from what is stored and taken
 pub nine-at : (v i : ℕ) (bd : List ℕ) (x y : ℕ) {p q : ℕ} → p ≡ storage_place v → q ≡ taken_place i → v < 8 → get_or (set (set bd p x) q y) marks_place 0 ≡ marks_at bd
 nine-at v i bd x y {p} {q} ep eq h = get_or-set_other (set bd p x) q marks_place y 0 (λ z. omega (arith, z, eq)) ∙ get_or-set_other bd p marks_place x 0 (λ z. omega (arith, z, ep))

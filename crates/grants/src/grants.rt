@@ -49,6 +49,7 @@ pub struct RiverPart {
 }
 
 // The number of the station at a row.
+#[tactic(auto, using(crate::proofs::Looks::number_is))]
 pub fn station_number(stations: &[u8], row: usize) -> u32
     requires { row < rows_of stations.now }
     ensures { result ≡ number_at (stations_of stations.now) row }
@@ -57,6 +58,7 @@ pub fn station_number(stations: &[u8], row: usize) -> u32
 }
 
 // What the river gives to a right at a row. An instream right is never called, and looks at its own row only; the others look down their path. A demand of nothing needs no look.
+#[tactic(auto, unfolding(crate::specs::Grants::part_of, crate::specs::Grants::reason_of))]
 pub fn river_part(
     stations: &[u8],
     below: &[u8; 64],

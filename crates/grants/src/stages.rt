@@ -69,6 +69,7 @@ pub fn demand_of(
 }
 
 // The river part d leaves the river: an instream right's the available flow at its row alone, another's flow and available flow along the path. A part of nothing is no work.
+#[tactic(auto, unfolding(crate::specs::Stages::levels_taken))]
 pub fn take(below: &[u8; 64], river: &mut River, kind: Kind, row: usize, d: u64)
     requires { CanTake kind below.now row d river.old.flow river.old.available }
     ensures { Taken kind below.now row d river.old.flow river.old.available river.new.flow river.new.available }
@@ -117,6 +118,7 @@ pub fn fill(reservoirs: &[u8], board: &mut [u64], kind: Kind, v: usize, i: usize
 
 // What the river did not give a project right it draws from storage, at most all that is stored. Nothing drawn is no work. The release is
 // flow at the reservoir's row and further down, but no longer at the right's.
+#[tactic(auto, unfolding(crate::specs::Stages::drawn_in, crate::specs::Stages::board_drawn, crate::specs::Stages::levels_released))]
 pub fn draw(
     below: &[u8; 64],
     reservoirs: &[u8],

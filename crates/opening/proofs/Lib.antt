@@ -1,3 +1,2 @@
 pub mod OpenedBoard
 pub mod Openings
-pub mod Sending

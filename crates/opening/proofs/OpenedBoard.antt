@@ -11,7 +11,7 @@ use lib.Seq.{get_or-set_same, get_or-set_other}
 use borrow.Rule.Slice.PartMut.{put_mid}
 use Rattle.std.proofs.Common.{rules, replicate}
 use Rattle.std.specs.List.{CopiedTo, SameBelow, SameFrom}
-use Rattle.std.proofs.lemmas.List.{places, length-replicate, get_or-replicate}
+use Rattle.std.proofs.lemmas.List.{places, get_or-replicate}
 use Rattle.general.specs.Tables.{tab}
 use Rattle.general.proofs.Tables.{tab-length, tab-at, tab-of, tab-same}
 use Rattle.general.proofs.Tests.{eqb-other, by_eqb, ltb_yes, ltb_no}
@@ -72,9 +72,6 @@ zeros bd ys from k long fits e = sym (tab-of (put_mid from k bd ys) 0 board_leng
   where
     part-long : length (take k (drop from bd)) ≡ k
     part-long = search (rules, places)
-
-    ys-long : length ys ≡ k
-    ys-long = rw (e, part-long) (length-replicate k 0)
 
     size : length (put_mid from k bd ys) ≡ board_length
     size = search (rules, places)

@@ -8,6 +8,7 @@ use river::River;
 
 // At a row where d enters: its flow is d and all that has come down to it, and goes on to the row below. Available flow starts equal to
 // flow.
+#[tactic(auto, unfolding(records::specs::Table::step_of))]
 fn send_down(below: &[u8; 64], river: &mut River, row: usize, d: u64)
     requires { CanSend below.now row d river.old.flow river.old.available }
     ensures { Sent below.now row d river.old.flow river.old.available river.new.flow river.new.available }

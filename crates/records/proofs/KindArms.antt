@@ -1,6 +1,6 @@
--- What an arm of a match on a kind that names several kinds is told, or one that takes what the arms before it leave. Assumes nothing.
+-- What an arm of a match on a kind that names several kinds is told. Assumes nothing.
 use mathlib.Core.Logic.{◌⊎◌, inl, inr}
-use mathlib.Core.Path.{◌≡◌, refl, sym, subst}
+use mathlib.Core.Path.{◌≡◌, sym, subst}
 use Rattle.records.specs.declared.rights.Kind.{Kind}
 use Rattle.records.specs.declared.rights.Kind.TheVariants.{Direct, Project, Instream, Storage}
 
@@ -18,32 +18,7 @@ module _ (P : Kind → Type 0) where
   instream-or-storage i s k (inl e) = subst P (sym e) i
   instream-or-storage i s k (inr e) = subst P (sym e) s
 
-  pub no-project : P Direct → P Instream → P Storage → (k : Kind) → (k ≡ Direct) ⊎ ((k ≡ Instream) ⊎ (k ≡ Storage)) → P k
-  no-project d i s k (inl e) = subst P (sym e) d
-  no-project d i s k (inr (inl e)) = subst P (sym e) i
-  no-project d i s k (inr (inr e)) = subst P (sym e) s
-
   pub no-storage : P Direct → P Project → P Instream → (k : Kind) → (k ≡ Direct) ⊎ ((k ≡ Project) ⊎ (k ≡ Instream)) → P k
   no-storage d p i k (inl e) = subst P (sym e) d
   no-storage d p i k (inr (inl e)) = subst P (sym e) p
   no-storage d p i k (inr (inr e)) = subst P (sym e) i
-
--- what holds of each kind but one holds of a kind that is not that one
-module _ (P : Kind → Type 0) where
-  pub but-project : P Direct → P Instream → P Storage → (k : Kind) → (k ≡ Project → ⊥) → P k
-  but-project d i s Direct h = d
-  but-project d i s Project h = absurd (h refl)
-  but-project d i s Instream h = i
-  but-project d i s Storage h = s
-
-  pub but-instream : P Direct → P Project → P Storage → (k : Kind) → (k ≡ Instream → ⊥) → P k
-  but-instream d p s Direct h = d
-  but-instream d p s Project h = p
-  but-instream d p s Instream h = absurd (h refl)
-  but-instream d p s Storage h = s
-
-  pub but-storage : P Direct → P Project → P Instream → (k : Kind) → (k ≡ Storage → ⊥) → P k
-  but-storage d p i Direct h = d
-  but-storage d p i Project h = p
-  but-storage d p i Instream h = i
-  but-storage d p i Storage h = absurd (h refl)

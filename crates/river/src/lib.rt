@@ -1,5 +1,6 @@
 // The river in a month: flow and available flow at each row, and walks along a path. A walk calls itself on the row below. All that a walk
-// is given fits in registers, tables and levels being arrays of 64 places by reference, so that its call costs no more than a turn of a loop.
+// is given fits in registers: the river, the table and short rows are 64 places by reference, and the change of a row is the number that it
+// takes or adds; so that its call costs no more than a turn of a loop.
 #![tactic(auto)]
 
 ghost use Rattle.std.specs.Prelude.{◌≡◌, cond, ltb, ◌<◌, get_or};

@@ -1,10 +1,6 @@
 -- `grants::stages::take` meets its contract. Assumes nothing.
-use mathlib.Core.Path.{◌≡◌, refl}
-use mathlib.Core.Bool.{false}
 use native.Mathlib.Omega.{arith}
-use Rattle.records.proofs.KindArms.{but-instream}
-use Rattle.grants.specs.Stages.{is_instream}
-use Rattle.grants.proofs.RightKinds.{taken-nothing, taken-instream, taken-along}
+use Rattle.grants.proofs.RightKinds.{taken-nothing, taken-instream}
 use Rattle.grants.proofs.stages.take.Goals as goal
 
 pub returns-then-d-eq0 : goal.returns-then-d-eq0
@@ -14,8 +10,3 @@ returns-then-d-eq0 c =
 pub returns-in-Instream : goal.returns-in-Instream
 returns-in-Instream c =
     taken-instream c.args.d c.args.below.now c.args.row c.args.river.now.flow c.args.river.now.available c.args.kind c.in-Instream.is (omega (arith, c.requires.on, c.requires.places)) c.requires.enough
-
-pub returns : goal.returns
-returns c =
-    let k : is_instream c.args.kind ≡ false = but-instream (λ k. is_instream k ≡ false) refl refl refl c.args.kind c.in_default.not-Instream in
-    taken-along c.args.d c.args.below.now c.args.row c.args.river.now.flow c.args.river.now.available _ _ c.divert.ensures c.args.kind k
