@@ -4,10 +4,11 @@
 set -euo pipefail
 cd "$(dirname "$0")/.."
 
-# The code of a file without what keeps no array: comments, contracts, texts and attributes; results, since what is
-# answered was made before; the types of lists that are lent; indices; and lists of nothing.
+# The code of a file without what keeps no array: comments, contracts, texts and attributes; what is written behind a
+# reference, which lies where it did; results, since what is answered was made before; the types of lists that are lent;
+# indices; and lists of nothing.
 code() {
-    sed -E 's|//.*||; /^ *(ghost|requires|ensures|invariant|decreases) /d; s/b"[^"]*"//g; s/#!?\[[^]]*\]//g' "$1" |
+    sed -E 's|//.*||; /^ *(ghost|requires|ensures|invariant|decreases) /d; s/b"[^"]*"//g; s/#!?\[[^]]*\]//g; s/^ *\*[a-z_]+ = //' "$1" |
         sed -E "s/-> \[.*//; s/&('[a-z]+ )?(mut )?\[+(bool|[iu][0-9]+|usize)(; [0-9]+\])*\]?//g" |
         sed -E 's/([A-Za-z0-9_])\[[^]]*\]/\1/g; s/\[\]//g'
 }

@@ -36,7 +36,8 @@ fn storages_ok(reservoirs: &[u8], board: &[u64]) -> bool
     )
 }
 
-// The yearly limit of a right, or 0 where there is none. Of the record only these four bytes are read.
+// The yearly limit of a right, or 0 where there is none. Of the record only these four bytes are read, as above; one function for both would
+// take a record's size and a place in it, and a definition more.
 fn taken_most(rights: &[u8], i: usize) -> u64
     ensures { result ≡ taken_most rights.now i }
 {

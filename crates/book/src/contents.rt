@@ -114,8 +114,11 @@ pub fn listed_body<'a>(rows: usize, book: &'a [u8], year: u32) -> &'a [u8]
     requires { Kept rows book.now }
     ensures { result.now ≡ listed_body rows book.now year }
 {
-    let Some(i) = (0..year_count(book)).find(|&i| year_at(book, i) == year) else {
-        return &book[..0];
-    };
-    body_at(rows, book, i)
+    let count = year_count(book);
+    for i in 0..count {
+        if year_at(book, i) == year {
+            return body_at(rows, book, i);
+        }
+    }
+    &book[..0]
 }

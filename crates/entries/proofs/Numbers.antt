@@ -4,8 +4,8 @@ use mathlib.Core.List.{List, [], ◌∷◌, ◌++◌, append_assoc, append-nil}
 use Prim.Native.Nat.{ℕ, zero, suc, ◌+◌, ◌*◌, ◌≤◌, ◌<◌}
 use native.Mathlib.Numerals.{add-one}
 use native.Mathlib.Omega.{arith}
-use lib.ListN.{length, get_or, take, drop, drop_of_length-le, length-append, get_or-append}
-use lib.Seq.{length-take-le, take-suc, take_all, get_or-append-add, drop-cons}
+use lib.ListN.{length, get_or, take, length-append, get_or-append}
+use lib.Seq.{length-take-le, take-suc, take_all, get_or-append-add}
 use Rattle.general.specs.Parts.{over}
 use Rattle.general.proofs.Parts.{over-over, over_none}
 use Rattle.general.proofs.Tables.{tab-length, tab-at}
@@ -63,11 +63,3 @@ board-length s e = tab-length (λ k. le64_at s (board_start e + 8 * k)) board_le
 pub board-place : (s : List ℕ) (e k : ℕ) → k < board_length → get_or (board_at s e) k 0 ≡ le64_at s (board_start e + 8 * k)
 unfolding board_at
 board-place s e k h = tab-at (λ k. le64_at s (board_start e + 8 * k)) board_length k 0 h
-
--- ---- a name, read byte by byte
-
-pub eight-elements : (l : List ℕ) → length l ≡ 8 → (get_or l 0 0 ∷ get_or l 1 0 ∷ get_or l 2 0 ∷ get_or l 3 0 ∷ get_or l 4 0 ∷ get_or l 5 0 ∷ get_or l 6 0 ∷ get_or l 7 0 ∷ []) ≡ l
-eight-elements l e =
-    let at : (i : ℕ) → i < length l → drop i l ≡ get_or l i 0 ∷ drop (suc i) l = λ i h. drop-cons l i 0 h in
-    sym (at 0 (omega arith) ∙ ap (λ (r : List ℕ). get_or l 0 0 ∷ r) (at 1 (omega arith) ∙ ap (λ (r : List ℕ). get_or l 1 0 ∷ r) (at 2 (omega arith) ∙ ap (λ (r : List ℕ). get_or l 2 0 ∷ r) (at 3 (omega arith) ∙ ap (λ (r : List ℕ). get_or l 3 0 ∷ r)
-    (at 4 (omega arith) ∙ ap (λ (r : List ℕ). get_or l 4 0 ∷ r) (at 5 (omega arith) ∙ ap (λ (r : List ℕ). get_or l 5 0 ∷ r) (at 6 (omega arith) ∙ ap (λ (r : List ℕ). get_or l 6 0 ∷ r) (at 7 (omega arith) ∙ ap (λ (r : List ℕ). get_or l 7 0 ∷ r) (drop_of_length-le l {i = 8} (omega arith))))))))))

@@ -27,8 +27,8 @@ fn put_numbers(store: &mut [u8], entry: usize, numbers: [u64; BOARD_LENGTH])
     ensures { store.new ≡ over store.old (board_start entry) (bytes_of numbers) }
 {
     let start = board_start(entry);
-    for (k, number) in numbers.iter().enumerate() {
-        put64(store, start + 8 * k, *number);
+    for (k, &number) in numbers.iter().enumerate() {
+        put64(store, start + 8 * k, number);
     }
 }
 

@@ -3,7 +3,7 @@ use mathlib.Core.Path.{◌≡◌, refl, sym, ap, ◌∙◌}
 use mathlib.Core.Logic.{◌≢◌}
 use mathlib.Core.Bool.{Bool, true, false}
 use Prim.Native.Nat.{ℕ, zero, suc, ◌+◌, ◌-◌, ◌/◌, ◌*◌, ◌%◌, ◌^◌, ◌≤◌, ◌<◌}
-use native.Mathlib.Nat.{pow-suc, pow-le-pow_right, mul_comm, div-div-eq-div-mul, zero-div}
+use native.Mathlib.Nat.{pow-suc, mul_comm, div-div-eq-div-mul, zero-div}
 use native.Mathlib.Decide.{dec_lt}
 use native.Mathlib.Omega.{arith}
 use lib.Bits.{bit_and, bit_or, and_high, and_le_l, and_le_r, or_lt, or_add_and}
@@ -131,9 +131,6 @@ module _ (w i : ℕ) where
   put-fits false n h l = omega (arith, l)
 
 -- ---- the language's words: one bit, and what a word has of it
-
-pub power-fits : (i : ℕ) → i < 64 → 2 ^ i < 18446744073709551616
-power-fits i h = omega (arith, pow-le-pow_right {n = 2} (omega arith) {i = i} {j = 63} (omega (arith, h)))
 
 pub and-bit : (w i : ℕ) → bit_and w (2 ^ i) ≡ only (bit w i) (2 ^ i)
 unfolding bit

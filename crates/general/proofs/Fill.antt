@@ -1,7 +1,7 @@
 -- A list that a loop fills from the front, one element a turn. Assumes nothing.
-use mathlib.Core.Path.{◌≡◌, sym, ap, ◌∙◌}
-use mathlib.Core.List.{List, ◌++◌, append_assoc, append-nil}
-use Prim.Native.Nat.{ℕ, suc, ◌+◌, ◌-◌, ◌≤◌, ◌<◌}
+use mathlib.Core.Path.{◌≡◌}
+use mathlib.Core.List.{List, ◌++◌, append_assoc}
+use Prim.Native.Nat.{ℕ, suc, ◌+◌, ◌-◌, ◌<◌}
 use native.Mathlib.Numerals.{add-one}
 use native.Mathlib.Omega.{arith}
 use lib.ListN.{length, get_or, drop, set, replicate}
@@ -24,12 +24,6 @@ module _ {A : Type 0} (f : ℕ → A) (z : A) where
   fill_more n k l v h ev el =
       let e : n - k ≡ suc (n - (k + 1)) = omega arith in
       rw (el, ev, add-one k, e, set_at (tab k f) z (replicate (n - (k + 1)) z) (f k) k (tab-length f k), append_assoc, add-one k)
-
-  pub fill_done : (n k : ℕ) (l : List A) → n ≤ k → k ≤ n → l ≡ filled f z n k → l ≡ tab n f
-  fill_done n k l h h' el =
-      let e : n ≡ k = omega arith in
-      let d : n - k ≡ 0 = omega arith in
-      (rw d at el) ∙ append-nil (tab k f) ∙ ap (λ (j : ℕ). tab j f) (sym e)
 
   -- a loop over the first k of n places
   pub fill_front : (d : A) (n k : ℕ) (l : List A) → length l ≡ k → ((j : ℕ) → j < k → get_or l j d ≡ f j) → l ++ drop k (replicate n z) ≡ filled f z n k

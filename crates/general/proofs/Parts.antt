@@ -2,11 +2,10 @@
 use mathlib.Core.Path.{◌≡◌, sym, ap, ◌∙◌}
 use mathlib.Core.List.{List, [], ◌++◌, append_assoc}
 use Prim.Native.Nat.{ℕ, ◌+◌, ◌-◌, ◌≤◌, ◌<◌}
-use native.Mathlib.Numerals.{add-one}
 use native.Mathlib.Omega.{arith}
 use borrow.Rule.Slice.PartMut.{put_mid}
-use lib.ListN.{length, get_or, take, drop, set, length-append, length-drop, get_or-append}
-use lib.Seq.{length-take-le, get_or-append-add, get_or-take, get_or-drop, drop-drop, take_at, drop_at, take_all, sets-eq, paste, paste-zero, paste-suc}
+use lib.ListN.{length, get_or, take, drop, length-append, length-drop, get_or-append}
+use lib.Seq.{length-take-le, get_or-append-add, get_or-take, get_or-drop, drop-drop, take_at, drop_at, sets-eq}
 use Rattle.general.specs.Parts.{over}
 
 module _ (s : List ℕ) (at : ℕ) (v : List ℕ) where
@@ -68,22 +67,3 @@ over_none s at h = sets-eq [] s at (omega arith)
 pub put_mid-over : (s : List ℕ) (at k : ℕ) (v : List ℕ) → k ≡ length v → put_mid at k s v ≡ over s at v
 unfolding over
 put_mid-over s at k v e = sym (append_assoc (take at s) v (drop k (drop at s))) ∙ ap (λ (r : List ℕ). take at s ++ v ++ r) (drop-drop k at s ∙ ap (λ (n : ℕ). drop (at + n) s) e)
-
--- ---- a list copied over a part, one element a turn
-
--- k elements of v are copied
-pub record Copied (s : List ℕ) (at : ℕ) (v : List ℕ) (k : ℕ) (x : List ℕ) : Type 0 where
-  pub is : x ≡ paste s at v k
-
-module _ (s : List ℕ) (at : ℕ) (v : List ℕ) where
-  pub copied_none : Copied s at v 0 s
-  copied_none = record { is = paste-zero s at v }
-
-  pub copied_more : (k : ℕ) (x : List ℕ) → at + length v ≤ length s → k < length v → Copied s at v k x → Copied s at v (k + 1) (set x (at + k) (get_or v k 0))
-  copied_more k x h l c = record {
-    is = ap (λ (y : List ℕ). set y (at + k) (get_or v k 0)) c.is ∙ paste-suc s at v k 0 (omega arith) l ∙ ap (paste s at v) (sym (add-one k));
-  }
-
-  pub copied_all : (k : ℕ) (x : List ℕ) → k ≡ length v → Copied s at v k x → x ≡ over s at v
-  unfolding over
-  copied_all k x e c = c.is ∙ ap (paste s at v) e ∙ ap (λ (y : List ℕ). take at s ++ y ++ drop (at + length v) s) (take_all (length v) v (omega arith))

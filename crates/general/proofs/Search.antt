@@ -75,18 +75,6 @@ module _ (t : ℕ → Bool) where
       go true f ih = let g : Some i ≡ None = sym (first-here n i f) ∙ e in absurd (let z : ◌≡◌ {A = ℕ} 0 1 = cc in omega arith)
       go false f ih = by_eqb i j (λ _. t j ≡ false) (λ g. ap t (sym g) ∙ f) (λ g. ih (sym (first-later n i f) ∙ e) j (omega arith) (omega arith))
 
--- by another test that agrees
-pub first-same : (s t : ℕ → Bool) (n i : ℕ) → ((j : ℕ) → i ≤ j → j < i + n → s j ≡ t j) → first_at n i s ≡ first_at n i t
-unfolding first_at
-first-same s t zero i h = refl
-first-same s t (suc n) i h = λ z. elim (h i (omega arith) (omega arith) z) [ true ↦ Some i | false ↦ first-same s t n (suc i) (λ j l m. h j (omega arith) (omega arith)) z ]
-
--- the library's first of a list, where the list is a range
-pub found-first : (t : ℕ → Bool) (n i : ℕ) → find t (range_with_len i n) ≡ first_at n i t
-unfolding first_at
-found-first t zero i = refl
-found-first t (suc n) i = elim (t i) as (λ b. cond b (Some i) (find t (range_with_len (i + 1) n)) ≡ elim b [ true ↦ Some i | false ↦ first_at n (suc i) t ]) [ true ↦ refl | false ↦ found-first t n (i + 1) ∙ ap (λ (j : ℕ). first_at n j t) (add-one i) ]
-
 not-false-of : {b : Bool} → not b ≡ false → b ≡ true
 not-false-of {b = true} e = refl
 not-false-of {b = false} e = absurd-bool refl e
@@ -137,3 +125,17 @@ pub all_same : (n : ℕ) (s t : ℕ → Bool) → ((i : ℕ) → i < n → s i �
 unfolding all_to
 all_same zero s t h = refl
 all_same (suc n) s t h = λ z. all_same n s t (λ i l. h i (omega arith)) z and h n (omega arith) z
+
+-- ---- the first of a range
+
+-- by another test that agrees
+pub first-same : (s t : ℕ → Bool) (n i : ℕ) → ((j : ℕ) → i ≤ j → j < i + n → s j ≡ t j) → first_at n i s ≡ first_at n i t
+unfolding first_at
+first-same s t zero i h = refl
+first-same s t (suc n) i h = λ z. elim (h i (omega arith) (omega arith) z) [ true ↦ Some i | false ↦ first-same s t n (suc i) (λ j l m. h j (omega arith) (omega arith)) z ]
+
+-- the library's first of a list, where the list is a range
+pub found-first : (t : ℕ → Bool) (n i : ℕ) → find t (range_with_len i n) ≡ first_at n i t
+unfolding first_at
+found-first t zero i = refl
+found-first t (suc n) i = elim (t i) as (λ b. cond b (Some i) (find t (range_with_len (i + 1) n)) ≡ elim b [ true ↦ Some i | false ↦ first_at n (suc i) t ]) [ true ↦ refl | false ↦ found-first t n (i + 1) ∙ ap (λ (j : ℕ). first_at n j t) (add-one i) ]

@@ -9,10 +9,6 @@ use lib.ListN.{length, get_or}
 use Rattle.std.specs.Int.{to_le_bytes}
 use Rattle.numbers.specs.Bytes.{le32_at, le64_at, bytes32, bytes64}
 
-pub length-bytes32 : (x : ℕ) → length (bytes32 x) ≡ 4
-unfolding bytes32
-length-bytes32 x = refl
-
 pub length-bytes64 : (x : ℕ) → length (bytes64 x) ≡ 8
 unfolding bytes64 bytes32
 length-bytes64 x = refl

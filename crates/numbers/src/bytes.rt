@@ -51,8 +51,7 @@ pub fn three_zeros(s: &[u8], at: usize) -> bool
     (s[at] == 0) & (s[at + 1] == 0) & (s[at + 2] == 0)
 }
 
-// Whether n numbers of four bytes, each `step` bytes after the one before, are at most a limit. All are looked at: a loop that may leave
-// early costs more than it saves, since most files are good.
+// Whether n numbers of four bytes, each `step` bytes after the one before, are at most a limit.
 pub fn all_at_most(s: &[u8], at: usize, step: usize, n: usize, most: u32) -> bool
     requires { (at + step * n ≤ length s.now) × (4 ≤ step) }
     ensures { result ≡ all_at_most s.now at step n most }

@@ -24,7 +24,7 @@ pub fn reservoir_at(reservoirs: &[u8], v: usize) -> ReservoirRecord
     }
 }
 
-// The storage of pair k of the area-capacity table.
+// The storage of pair k of the area-capacity table. It and the next differ in a number alone; each has its name in the definitions.
 pub fn content_at(reservoirs: &[u8], v: usize, k: usize) -> u32
     requires { (v < reservoir_count reservoirs.now) × (k < 4) }
     ensures { result ≡ content_at reservoirs.now v k }

@@ -71,7 +71,7 @@ pub fn right_at(rights: &[u8], i: usize) -> RightRecord
     }
 }
 
-// The row of return point k.
+// The row of return point k. It and the next differ in a number alone; each has its name in the definitions.
 pub fn return_row(rights: &[u8], i: usize, k: usize) -> u8
     requires { (i < right_count rights.now) × (k < 4) }
     ensures { result ≡ return_row rights.now i k }

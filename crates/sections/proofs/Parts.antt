@@ -2,8 +2,8 @@
 use mathlib.Core.Path.{◌≡◌, ap, ◌∙◌}
 use mathlib.Core.Bool.{true, false}
 use mathlib.Core.List.{List, []}
-use Prim.Native.Nat.{ℕ, ◌-◌, ◌*◌, ◌≤◌, ◌<◌}
-use native.Mathlib.Nat.{mul-le-mul, add-sub_cancel_left}
+use Prim.Native.Nat.{ℕ, ◌-◌, ◌≤◌, ◌<◌}
+use native.Mathlib.Nat.{add-sub_cancel_left}
 use native.Mathlib.Omega.{arith}
 use borrow.Author.Tests.{le-leb, lt-leb}
 use lib.ListN.{length, take, drop, length-drop}
@@ -11,10 +11,6 @@ use lib.Seq.{length-take-le}
 use Rattle.general.specs.Tests.{◌and◌}
 use Rattle.general.proofs.Tests.{both_of, between-of, eq_of, le_of}
 use Rattle.sections.specs.File.{offset_of, count_of, size_of, end_of, counts_ok, packed, layout_ok, section_of}
-
--- a size that the table can name fits easily
-pub size-most : (n w : ℕ) → n < 4294967296 → w < 77 → n * w ≤ 4294967295 * 76
-size-most n w h k = mul-le-mul {n₁ = n} {m₁ = w} {n₂ = 4294967295} {m₂ = 76} (omega arith) (omega arith)
 
 module _ (f : List ℕ) where
   pub layout-short : length f < 32 → layout_ok f ≡ false

@@ -1,5 +1,5 @@
-use Rattle.std.proofs.Common.{ap, ◌∙◌, Bool, ℕ, arith}
-use Rattle.general.specs.Tests.{◌and◌, all_to}
+use Rattle.std.proofs.Common.{ap, Bool, arith}
+use Rattle.general.specs.Tests.{◌and◌}
 use Rattle.general.proofs.Loops.{all_none, all_more}
 use Rattle.numbers.proofs.all_below.Goals as goal
 
@@ -11,6 +11,3 @@ unfolding ◌and◌
 loop-k-preserved g c = λ t m.
     let l = c.loop-k in
     all_more t l.k l.all _ (l.invariant t m) (ap (λ (b : Bool). l.all and b) (m l.k c.test-all.result (omega arith) c.test-all.ensures))
-
-pub returns : goal.returns
-returns g c = λ t m. c.loop-k.invariant t m ∙ ap (λ (k : ℕ). all_to k t) (omega arith)

@@ -6,7 +6,7 @@ use native.Mathlib.Omega.{arith}
 use lib.Bits.{bit_and}
 use Rattle.general.specs.Sums.{only}
 use Rattle.general.specs.Tests.{bit, with_bit}
-use Rattle.general.proofs.Bits.{without-le, put-fits, and-bit}
+use Rattle.general.proofs.Bits.{and-bit}
 use Rattle.numbers.proofs.put_bit.Goals as goal
 
 -- what the word has of the bit
@@ -20,13 +20,6 @@ set_is w i one on e t = rw t (omega (arith, has-it w i one e, e))
 clear-is : (w i one : ℕ) (on : Bool) → one ≡ 2 ^ i → on ≡ false → w - bit_and w one ≡ with_bit w i on
 unfolding with_bit
 clear-is w i one on e t = rw t (omega (arith, has-it w i one e))
-
-pub overflow_sub-rest : goal.overflow_sub-rest
-overflow_sub-rest c = omega (arith, has-it c.args.word c.args.i c.power-one.result c.power-one.ensures, without-le c.args.word c.args.i)
-
-pub overflow_add-result : goal.overflow_add-result
-overflow_add-result c =
-    omega (arith, set_is c.args.word c.args.i c.power-one.result true c.power-one.ensures (λ _. true), put-fits c.args.word c.args.i true 32 c.requires.0 c.requires.1)
 
 pub returns-then-on : goal.returns-then-on
 returns-then-on c = set_is c.args.word c.args.i c.power-one.result c.args.on c.power-one.ensures c.if-on.true

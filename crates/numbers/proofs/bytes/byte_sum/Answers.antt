@@ -1,21 +1,12 @@
 use Rattle.std.proofs.Common.{ap, ◌∙◌, ℕ, ◌+◌, ◌*◌, arith}
 use Rattle.general.specs.Sums.{sum_to}
-use Rattle.general.proofs.Loops.{total-none, total-more, step-within}
+use Rattle.general.proofs.Loops.{total-none, total-more}
 use Rattle.numbers.specs.Bytes.{byte_sum}
 use Rattle.numbers.proofs.bytes.byte_sum.Invariants.{byte}
 use Rattle.numbers.proofs.bytes.byte_sum.Goals as goal
 
 pub loop-k-init : goal.loop-k-init
 loop-k-init c = (omega arith, total-none _)
-
-pub overflow_mul-step : goal.overflow_mul-step
-overflow_mul-step c = let a = c.args in omega (arith, step-within a.step a.n c.loop-k.k (omega arith))
-
-pub overflow_add-at : goal.overflow_add-at
-overflow_add-at c = let a = c.args in omega (arith, step-within a.step a.n c.loop-k.k (omega arith))
-
-pub bounds-s-at : goal.bounds-s-at
-bounds-s-at c = let a = c.args in omega (arith, step-within a.step a.n c.loop-k.k (omega arith))
 
 pub loop-k-preserved : goal.loop-k-preserved
 loop-k-preserved c =
