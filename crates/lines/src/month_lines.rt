@@ -9,7 +9,6 @@ ghost use Rattle.lines.specs.Putting.{most_text, CanList, Put};
 use crate::text::Text;
 use boards::sums::{due_sum, storage_sum};
 use numbers::bytes::le32;
-use numbers::wide32;
 use places::report::{FROM_STORAGE, REASON, STATION, flow_place, line_place, rows_end};
 use records::bodies::Bodies;
 
@@ -24,7 +23,7 @@ fn put_right(text: &mut Text, month: u64, rights: &[u8], report: &[u64], i: usiz
     let line = line_place(i);
     text.line(&[
         month,
-        wide32(le32(rights, 76 * i)),
+        u64::from(le32(rights, 76 * i)),
         report[line],
         report[line + FROM_STORAGE],
         report[line + REASON],

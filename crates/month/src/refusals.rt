@@ -9,7 +9,6 @@ ghost use Rattle.month.specs.Month.{all_fit};
 
 use answers::{Answer, judge_file, tell};
 use boards::possible::is_possible;
-use numbers::both;
 use places::board::BOARD_LENGTH;
 use places::report::report_end;
 use records::bodies::Bodies;
@@ -25,8 +24,7 @@ fn all_fit(bodies: &Bodies<'_>, runoff: &[u32], board: &[u64], report: &[u64]) -
 {
     let rows = bodies.rows();
     let told = report_end(bodies.right_count(), rows, bodies.reservoir_count());
-    let room = both(runoff.len() == rows, told <= report.len());
-    both(room, board.len() == BOARD_LENGTH)
+    (runoff.len() == rows) & (told <= report.len()) & (board.len() == BOARD_LENGTH)
 }
 
 // The first row whose runoff is over the limit.

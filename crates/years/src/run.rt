@@ -22,7 +22,6 @@ use boards::possible::is_possible;
 use book::find::{find_year, station_count, year_part};
 use closing::in_year;
 use month::run::run;
-use numbers::both;
 use places::board::{BOARD_LENGTH, MONTH};
 use places::report::report_end;
 use records::bodies::Bodies;
@@ -101,7 +100,7 @@ fn run_fits(bodies: &Bodies<'_>, board: &[u64], reports: &[u64]) -> bool
         bodies.rows(),
         bodies.reservoir_count(),
     );
-    both(board.len() == BOARD_LENGTH, MONTHS * told <= reports.len())
+    (board.len() == BOARD_LENGTH) & (MONTHS * told <= reports.len())
 }
 
 // What is lent beside an accepted file: the lengths of board and list, then whether the board is possible.

@@ -6,4 +6,4 @@ use Rattle.lines.proofs.month_lines.put_right.Goals as goal
 
 pub returns : goal.returns
 unfolding right_line right_of right_record
-returns c = rw (c.wide32.ensures.0 ∙ c.le32.ensures, c.line_place-line.ensures) at c.line.ensures
+returns c = rw (c.from.ensures ∙ c.le32.ensures, c.line_place-line.ensures) at c.line.ensures
