@@ -1,52 +1,10 @@
-// Widths of numbers, small tests on them, and tests joined without a branch. Each widening has a function of its own, so that a caller learns
-// the bound with the number.
+// Small tests on numbers, and the bits of a word.
 #![tactic(auto)]
 
-ghost use Rattle.std.specs.Prelude.{◌≡◌, Bool, ◌||◌, ℕ, ◌≤◌, ◌<◌, ◌^◌, min};
-ghost use Rattle.general.specs.Sums.{only};
+ghost use Rattle.std.specs.Prelude.{◌≡◌, Bool, ℕ, ◌≤◌, ◌<◌, ◌^◌};
 ghost use Rattle.general.specs.Tests.{◌and◌, between, all_to, bit, with_bit};
 
 pub mod bytes;
-
-// ---- a byte in more room
-
-pub fn byte16(x: u8) -> u16
-    ensures { (result ≡ x) × (result < 256) }
-{
-    u16::from(x)
-}
-
-pub fn byte32(x: u8) -> u32
-    ensures { (result ≡ x) × (result < 256) }
-{
-    x as u32
-}
-
-pub fn index(x: u8) -> usize
-    ensures { (result ≡ x) × (result < 256) }
-{
-    x as usize
-}
-
-pub fn size(x: u32) -> usize
-    ensures { (result ≡ x) × (result < 4294967296) }
-{
-    x as usize
-}
-
-// ---- any number in 64 bits
-
-pub fn wide8(x: u8) -> u64
-    ensures { (result ≡ x) × (result < 256) }
-{
-    x as u64
-}
-
-pub fn wide16(x: u16) -> u64
-    ensures { (result ≡ x) × (result < 65536) }
-{
-    x as u64
-}
 
 pub fn wide32(x: u32) -> u64
     ensures { (result ≡ x) × (result < 4294967296) }
@@ -54,19 +12,7 @@ pub fn wide32(x: u32) -> u64
     x as u64
 }
 
-pub fn wide_size(x: usize) -> u64
-    ensures { result ≡ x }
-{
-    x as u64
-}
-
-// ---- tests
-
-pub fn lesser(a: u64, b: u64) -> u64
-    ensures { (result ≡ min a b) × (result ≤ a) × (result ≤ b) }
-{
-    a.min(b)
-}
+// ---- bits of a word
 
 // Whether bit i of a word is set.
 pub fn bit_of(word: u64, i: u64) -> bool
@@ -97,25 +43,12 @@ pub fn put_bit(word: u64, i: u64, on: bool) -> u64
     rest
 }
 
-// What a test counts for.
-pub fn one_if(on: bool) -> usize
-    ensures { (result ≡ only on 1) × (result ≤ 1) }
-{
-    usize::from(on)
-}
-
-// ---- tests joined without a branch: rules of one record are all asked, and their answers put together
+// ---- tests
 
 pub fn both(a: bool, b: bool) -> bool
     ensures { result ≡ (a and b) }
 {
     a & b
-}
-
-pub fn either(a: bool, b: bool) -> bool
-    ensures { result ≡ (a || b) }
-{
-    a | b
 }
 
 // What `contains` of a range says, in the words of the rules.
