@@ -30,7 +30,7 @@ impl<'a> Text<'a> {
         ensures empty { result.bytes ≡ [] }
         ensures room { result.room ≡ length list.old }
     {
-        Text { list: list, len: 0 }
+        Text { list, len: 0 }
     }
 
     // What is written.

@@ -3,12 +3,6 @@ use native.Mathlib.Omega.{arith}
 use Rattle.yearly.proofs.Opened.{year-refused, year-accepted}
 use Rattle.yearly.proofs.open_year.Goals as goal
 
-pub judge_year-answer-requires : goal.judge_year-answer-requires
-judge_year-answer-requires c = c.requires.in_order
-
-pub refuse-requires : goal.refuse-requires
-refuse-requires c = c.requires.room
-
 pub returns-then-answer-ne0 : goal.returns-then-answer-ne0
 returns-then-answer-ne0 c = year-refused c.args.book.now c.args.year c.args.listing.now _ c.judge_year-answer.ensures (λ z. omega (arith, z, c.if-answer-ne0.true)) _ c.refuse.ensures
 
