@@ -1,4 +1,5 @@
 -- A run of calls is accounted for. Assumes nothing.
+use Rattle.std.specs.Prelude.{Ok}
 use mathlib.Core.Path.{◌≡◌, refl, subst}
 use mathlib.Core.Bool.{true}
 use mathlib.Core.List.{List, [], ◌∷◌}
@@ -15,7 +16,6 @@ use Rattle.rules.specs.Years.{monthly, yearly}
 use Rattle.rules.specs.Water.{MonthSound}
 use Rattle.rules.specs.Accepted.{Accepted}
 use Rattle.rules.proofs.Theorems.{checkpoints}
-use Rattle.rules.specs.declared.Verdict.TheVariants.{Accepted as AcceptedFile}
 use Rattle.records.specs.Records.{basin_of}
 use Rattle.filecheck.specs.Check.{check_of}
 use Rattle.boards.specs.Board.{carried_of, possible}
@@ -35,7 +35,7 @@ left_by_lem : (f : List ℕ) (st : Standing) (board : List ℕ) (es : List Event
 left_by_lem f st board [] e h = e
 left_by_lem f st board (x ∷ es) e h = left_by_lem f (after_event f st x) (left_by x) es h.0.board h.1
 
-module _ (f : List ℕ) (ok : check_of f ≡ AcceptedFile) (acc : Accepted (basin_of f)) where
+module _ (f : List ℕ) (ok : check_of f ≡ Ok tt) (acc : Accepted (basin_of f)) where
   abbrev b : Basin
   b = basin_of f
 

@@ -1,5 +1,5 @@
 -- A month call and a year run on a board that is not possible: refused, at the latest for the board, and nothing is changed. Assumes nothing.
-use Rattle.std.specs.Prelude.{Option, None, Some}
+use Rattle.std.specs.Prelude.{Option, None, Some, Ok}
 use mathlib.Core.Path.{◌≡◌, refl, ap, ◌∙◌}
 use mathlib.Core.Bool.{Bool, true, false}
 use mathlib.Core.List.{List}
@@ -9,7 +9,7 @@ use Rattle.general.specs.Tests.{◌and◌}
 use Rattle.rules.specs.Tally.{lists_fit, over_limit, over_answer}
 use Rattle.rules.specs.Years.{room_for_year}
 use Rattle.rules.specs.Answers.{Answer, told, or_else, unless}
-use Rattle.rules.specs.declared.Verdict.TheVariants.{Accepted as AcceptedFile, Lists, Board}
+use Rattle.rules.specs.declared.Refusal.TheVariants.{Lists, Board}
 use Rattle.records.specs.Records.{basin_of}
 use Rattle.filecheck.specs.Check.{check_of}
 use Rattle.boards.specs.Board.{possible}
@@ -42,7 +42,7 @@ stops-after None true later = refl
 stops-after None false later = refl
 stops-after (Some a) fits later = refl
 
-module _ (f : List ℕ) (ok : check_of f ≡ AcceptedFile) (l : List ℕ) (size : length l ≡ board_length) (cannot : possible (basin_of f) l ≡ false) where
+module _ (f : List ℕ) (ok : check_of f ≡ Ok tt) (l : List ℕ) (size : length l ≡ board_length) (cannot : possible (basin_of f) l ≡ false) where
   lent-astray : (fits : Bool) → lent_refusal f fits l ≡ board-last fits
   unfolding lent_refusal board-last or_else unless
   lent-astray true = rw (no-refusal f ok, cannot)

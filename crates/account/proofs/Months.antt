@@ -1,5 +1,5 @@
 -- A month call on the tally's board: it is refused just where the tally refuses it, and leaves what the tally says. Assumes nothing.
-use Rattle.std.specs.Prelude.{Option, None, Some}
+use Rattle.std.specs.Prelude.{Option, None, Some, Ok}
 use mathlib.Core.Path.{◌≡◌, refl, ap, ◌∙◌}
 use mathlib.Core.Bool.{Bool, true, false}
 use mathlib.Core.List.{List}
@@ -13,7 +13,7 @@ use Rattle.rules.specs.Years.{counts_as, after_entry, entry_answer}
 use Rattle.rules.specs.Answers.{Answer, or_else, unless}
 use Rattle.rules.specs.Accepted.{Accepted}
 use Rattle.rules.specs.Theorems.{Possible}
-use Rattle.rules.specs.declared.Verdict.TheVariants.{Accepted as AcceptedFile, Lists}
+use Rattle.rules.specs.declared.Refusal.TheVariants.{Lists}
 use Rattle.records.specs.Records.{basin_of}
 use Rattle.filecheck.specs.Check.{check_of}
 use Rattle.boards.specs.Board.{possible}
@@ -32,7 +32,7 @@ use Rattle.account.proofs.Telling.{tells}
 -- ---- refusals
 
 -- on an accepted file and a possible board only the lists are left to ask of what is lent
-pub lent-lists : (f board : List ℕ) (fits : Bool) → check_of f ≡ AcceptedFile → possible (basin_of f) board ≡ true → lent_refusal f fits board ≡ unless fits Lists
+pub lent-lists : (f board : List ℕ) (fits : Bool) → check_of f ≡ Ok tt → possible (basin_of f) board ≡ true → lent_refusal f fits board ≡ unless fits Lists
 unfolding lent_refusal or_else unless
 lent-lists f board true acc can = rw (no-refusal f acc, can)
 lent-lists f board false acc can = rw (no-refusal f acc)
@@ -41,7 +41,7 @@ pub lists-same : (b : Basin) (runoff board report : List ℕ) → length board �
 unfolding all_fit
 lists-same b runoff board report e = rw (e, eqb_same board_length) (and-true _)
 
-same-refusal : (f runoff board report : List ℕ) → check_of f ≡ AcceptedFile → length board ≡ board_length → possible (basin_of f) board ≡ true
+same-refusal : (f runoff board report : List ℕ) → check_of f ≡ Ok tt → length board ≡ board_length → possible (basin_of f) board ≡ true
     → month_refusal f runoff board report ≡ refusal (basin_of f) (call_with runoff report)
 unfolding month_refusal refusal
 same-refusal f runoff board report e n p =
@@ -54,7 +54,7 @@ tally-length b t = board-length b t.carried (pending b t.start t.months)
 
 -- ---- what it answers and leaves
 
-module _ (f : List ℕ) (ok : check_of f ≡ AcceptedFile) (acc : Accepted (basin_of f)) (t : Tally) (p : Possible (basin_of f) (standing (basin_of f) t)) where
+module _ (f : List ℕ) (ok : check_of f ≡ Ok tt) (acc : Accepted (basin_of f)) (t : Tally) (p : Possible (basin_of f) (standing (basin_of f) t)) where
   abbrev b : Basin
   b = basin_of f
 

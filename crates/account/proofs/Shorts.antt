@@ -1,5 +1,5 @@
 -- The short months answered on the tally's board are those of its grants. Assumes nothing.
-use Rattle.std.specs.Prelude.{Option, None}
+use Rattle.std.specs.Prelude.{Option, None, Ok}
 use mathlib.Core.Path.{◌≡◌, sym, ap, ◌∙◌}
 use mathlib.Core.Bool.{Bool, false}
 use mathlib.Core.List.{List}
@@ -19,7 +19,6 @@ use Rattle.rules.specs.Accepted.{Accepted}
 use Rattle.rules.specs.Theorems.{Possible}
 use Rattle.rules.proofs.Theorems.{always_possible, short_months}
 use Rattle.rules.proofs.Shortness.{count-places}
-use Rattle.rules.specs.declared.Verdict.TheVariants.{Accepted as AcceptedFile}
 use Rattle.records.specs.Records.{basin_of}
 use Rattle.filecheck.specs.Check.{check_of}
 use Rattle.places.specs.Board.{word_at}
@@ -37,7 +36,7 @@ unfolding bits_set
 bits-many ms e =
     sum_to-same 12 _ _ (λ k _. ap (λ (t : Bool). only t 1) (bit_word ms k)) ∙ sym (count-places ms ∙ ap (λ (n : ℕ). sum_to n (λ k. only (get_or ms k false) 1)) e)
 
-module _ (f : List ℕ) (ok : check_of f ≡ AcceptedFile) (acc : Accepted (basin_of f)) where
+module _ (f : List ℕ) (ok : check_of f ≡ Ok tt) (acc : Accepted (basin_of f)) where
   abbrev b : Basin
   b = basin_of f
 

@@ -1,4 +1,5 @@
 -- Where a run stands: what holds of its tally, the tally that a board starts, and the two calls that start one, fresh and recall. Assumes nothing.
+use Rattle.std.specs.Prelude.{Ok}
 use mathlib.Core.Path.{◌≡◌, refl, sym, ap, ◌∙◌, subst}
 use mathlib.Core.Bool.{Bool, true, false, cond}
 use mathlib.Core.List.{List, [], ◌∷◌, ◌++◌}
@@ -15,7 +16,7 @@ use Rattle.rules.specs.Accepted.{Accepted}
 use Rattle.rules.specs.Theorems.{Possible}
 use Rattle.rules.proofs.Possible.{fresh-possible}
 use Rattle.rules.proofs.Theorems.{water, start_kept, always_possible}
-use Rattle.rules.specs.declared.Verdict.TheVariants.{Accepted as AcceptedFile, Name}
+use Rattle.rules.specs.declared.Refusal.TheVariants.{Name}
 use Rattle.records.specs.Records.{basin_of}
 use Rattle.filecheck.specs.Check.{check_of}
 use Rattle.places.specs.Board.{board_length}
@@ -66,7 +67,7 @@ abbrev pub Stands : Basin → Standing → Type 0
 Stands b (tallied t) = Reached b t
 Stands b (astray l) = (length l ≡ board_length) × (possible b l ≡ false)
 
-module _ (f : List ℕ) (ok : check_of f ≡ AcceptedFile) (acc : Accepted (basin_of f)) where
+module _ (f : List ℕ) (ok : check_of f ≡ Ok tt) (acc : Accepted (basin_of f)) where
   abbrev b : Basin
   b = basin_of f
 

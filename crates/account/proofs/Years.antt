@@ -1,5 +1,5 @@
 -- A year run on the tally's board: it is refused just where the tally refuses it, and leaves what the tally says of each of its months. Assumes nothing.
-use Rattle.std.specs.Prelude.{Option, None, Some}
+use Rattle.std.specs.Prelude.{Option, None, Some, Ok}
 use mathlib.Core.Path.{◌≡◌, refl, sym, ap, ◌∙◌, subst}
 use mathlib.Core.Bool.{Bool, true}
 use mathlib.Core.List.{List, [], ◌∷◌, map}
@@ -16,7 +16,7 @@ use Rattle.rules.specs.Years.{YearRun, least_call, calls_in, room_for_year, firs
 use Rattle.rules.specs.Answers.{Answer, or_else, unless}
 use Rattle.rules.specs.Accepted.{Accepted}
 use Rattle.rules.specs.Theorems.{Possible}
-use Rattle.rules.specs.declared.Verdict.TheVariants.{Accepted as AcceptedFile, Lists}
+use Rattle.rules.specs.declared.Refusal.TheVariants.{Lists}
 use Rattle.rules.proofs.Answers.{or-first, or-second, or_same, unless-none}
 use Rattle.rules.proofs.Possible.{call-possible}
 use Rattle.records.specs.Records.{basin_of}
@@ -34,7 +34,7 @@ use Rattle.account.proofs.Months.{lent-lists, tally-length, tally-refusal, Settl
 use Rattle.rules.specs.Years as tally
 use Rattle.years.specs.Years as year
 
-module _ (f : List ℕ) (ok : check_of f ≡ AcceptedFile) (acc : Accepted (basin_of f)) where
+module _ (f : List ℕ) (ok : check_of f ≡ Ok tt) (acc : Accepted (basin_of f)) where
   abbrev b : Basin
   b = basin_of f
 

@@ -1,7 +1,7 @@
 -- A run of calls is accounted for: one claim about any list of calls that can change a board, months, years, fresh and recalls, accepted and refused in any
 -- mix, from any board. What the calls answer and leave is what the tally says (01, "The tally of a list of months"; 02, Nos. 4 to 7). It cites only
 -- definitions; proofs/Theorems.antt proves it.
-use Rattle.std.specs.Prelude.{◌≡◌, true, false, cond, List, [], ◌∷◌, map, ℕ, ◌<◌, ltb, length, Some}
+use Rattle.std.specs.Prelude.{◌≡◌, true, false, cond, List, [], ◌∷◌, map, ℕ, ◌<◌, ltb, length, Some, Ok}
 use Rattle.general.specs.Sums.{only}
 use Rattle.general.specs.Tables.{All}
 use Rattle.rules.specs.Basin.{Basin, rows}
@@ -10,7 +10,7 @@ use Rattle.rules.specs.Years.{YearRun, calls_in, room_for_year, run_refusal, Ent
 use Rattle.rules.specs.Answers.{Answer, told, or_else, unless}
 use Rattle.rules.specs.Water.{MonthSound, WaterKept}
 use Rattle.rules.specs.Shortness.{since_october, short_in, short_now}
-use Rattle.rules.specs.declared.Verdict.TheVariants.{Accepted, Lists, Board}
+use Rattle.rules.specs.declared.Refusal.TheVariants.{Lists, Board}
 use Rattle.records.specs.Records.{basin_of}
 use Rattle.filecheck.specs.Check.{check_of}
 use Rattle.places.specs.Board.{board_length, due_at}
@@ -152,7 +152,7 @@ pub record Accounted (f board : List ℕ) (es : List Event) : Type 0 where
 
 -- So is every run, for every file that the check accepts and every board, with months, years, fresh and recalls accepted and refused in any mix.
 abbrev pub Claim : Type 0
-Claim = (f board : List ℕ) → check_of f ≡ Accepted → length board ≡ board_length → (es : List Event) → Run f board es → Accounted f board es
+Claim = (f board : List ℕ) → check_of f ≡ Ok tt → length board ≡ board_length → (es : List Event) → Run f board es → Accounted f board es
 
 -- ---- two starts
 
@@ -163,11 +163,11 @@ pub record FreshBoard (b : Basin) : Type 0 where
   pub starts : start_of b (fresh_board b) ≡ fresh_start b
 
 abbrev pub FreshStarts : Type 0
-FreshStarts = (f : List ℕ) → check_of f ≡ Accepted → FreshBoard (basin_of f)
+FreshStarts = (f : List ℕ) → check_of f ≡ Ok tt → FreshBoard (basin_of f)
 
 -- since a fresh start the short months are just those of the grants since October
 abbrev pub ShortFromFresh : Type 0
-ShortFromFresh = (f board : List ℕ) → check_of f ≡ Accepted → length board ≡ board_length → (es : List Event) → Run f board es
+ShortFromFresh = (f board : List ℕ) → check_of f ≡ Ok tt → length board ≡ board_length → (es : List Event) → Run f board es
     → (t : Tally) → after_events f (stands_on (basin_of f) board) es ≡ tallied t → t.start ≡ fresh_start (basin_of f) → (i : ℕ) → i < length (basin_of f).rights
     → short_months_of f (board_left board es) i ≡ record { number = 0; place = 0; months = short_in i (since_october t.months) }
 
@@ -181,4 +181,4 @@ Untried = (f board store name lent : List ℕ) → Words board → (save_of stor
 -- ---- the checkpoints of a month from any possible board, with any runoff: before the first right and three times in each right's turn
 
 abbrev pub Checkpoints : Type 0
-Checkpoints = (f board runoff : List ℕ) → check_of f ≡ Accepted → length board ≡ board_length → possible (basin_of f) board ≡ true → MonthSound (basin_of f) (run_of (basin_of f) runoff board)
+Checkpoints = (f board runoff : List ℕ) → check_of f ≡ Ok tt → length board ≡ board_length → possible (basin_of f) board ≡ true → MonthSound (basin_of f) (run_of (basin_of f) runoff board)

@@ -1,24 +1,26 @@
 -- What the calls turn down, in the order of the numbers (01, "Numbers for what is turned down").
-use Rattle.std.specs.Prelude.{Bool, cond, List, ℕ, eqb, Option, None, Some}
-use Rattle.rules.specs.declared.Verdict.{Verdict}
-use Rattle.rules.specs.declared.Verdict.TheVariants.{Accepted, Lists, Board}
-use Rattle.rules.specs.Answers.{Answer, number_of, told, or_else, unless}
+use Rattle.std.specs.Prelude.{Bool, List, ℕ, Option, None, Some, Result, Ok, Err}
+use Rattle.rules.specs.declared.Refusal.{Refusal}
+use Rattle.rules.specs.declared.Refusal.TheVariants.{Lists, Board}
+use Rattle.rules.specs.Answers.{Verdict, Answer, told, or_else, unless}
 use Rattle.records.specs.Records.{basin_of}
 use Rattle.filecheck.specs.Check.{check_of}
 use Rattle.boards.specs.Board.{possible}
 use Rattle.answers.specs.declared.Answer.{Answer as Given}
 
 abbrev pub accepted : Answer
-accepted = told Accepted
+accepted = record { number = 0; place = 0 }
 
 -- ---- refusals: none where nothing is turned down
 
-unfoldable pub verdict_refusal : Verdict → Option Answer
-verdict_refusal v = cond (eqb (number_of v) 0) None (Some (told v))
+-- that of a result, whatever it holds where nothing is turned down
+abbrev pub refusal_of : {A : Type 0} → Result A Refusal → Option Answer
+refusal_of (Ok x) = None
+refusal_of (Err r) = Some (told r)
 
 -- the file, by its check: 1 to 5
 unfoldable pub file_refusal : List ℕ → Option Answer
-file_refusal f = verdict_refusal (check_of f)
+file_refusal f = refusal_of (check_of f)
 
 -- all that is lent: the file, then the lengths of the lists, by the call's own test, then the board
 unfoldable pub lent_refusal : List ℕ → Bool → List ℕ → Option Answer
@@ -26,9 +28,18 @@ lent_refusal f fits board = or_else (file_refusal f) (or_else (unless fits Lists
 
 -- ---- answers
 
--- an answer as a call gives it
+-- an answer as C and the programs that print have it
 abbrev pub answer_of : Given → Answer
 answer_of a = record { number = a.number; place = a.place }
+
+-- that of a result: a refusal's number and place; else 0, and 0 or what was counted
+abbrev pub verdict_answer : Verdict → Answer
+verdict_answer (Ok u) = accepted
+verdict_answer (Err r) = told r
+
+abbrev pub count_answer : Result ℕ Refusal → Answer
+count_answer (Ok n) = record { number = 0; place = n }
+count_answer (Err r) = told r
 
 -- the answer that a refusal settles: acceptance where there is none
 unfoldable pub settled : Option Answer → Answer

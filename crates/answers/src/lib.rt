@@ -1,12 +1,12 @@
-// The answer of a call: a number and a place, 0 for acceptance (document 01).
+// What a call answers, as C and the programs that print have it: a number and a place, number 0 where nothing is turned down (document 01).
+// Within the engine a refusal is passed on as such.
 #![tactic(auto)]
 
 ghost use Rattle.std.specs.Prelude.{◌≡◌};
 ghost use Rattle.rules.specs.Answers.{number_of, place_of, told};
-ghost use Rattle.answers.specs.Answers.{answer_of, file_refusal, settled};
+ghost use Rattle.answers.specs.Answers.{answer_of, count_answer, verdict_answer};
 
-use filecheck::check::check;
-use rules::Verdict;
+use rules::Refusal;
 
 #[repr(C)]
 #[derive(Clone, Copy)]
@@ -15,60 +15,69 @@ pub struct Answer {
     pub place: u64,
 }
 
-// The number of a verdict.
-fn number(verdict: Verdict) -> u64
-    ensures { result ≡ number_of verdict }
+fn number(refusal: Refusal) -> u64
+    ensures { result ≡ number_of refusal }
 {
-    match verdict {
-        Verdict::Accepted => 0,
-        Verdict::Layout => 1,
-        Verdict::Station(_) => 2,
-        Verdict::Reservoir(_) => 3,
-        Verdict::Pattern(_) => 4,
-        Verdict::Right(_) => 5,
-        Verdict::Lists => 6,
-        Verdict::Board => 7,
-        Verdict::Runoff(_) => 8,
-        Verdict::Book => 9,
-        Verdict::Year => 10,
-        Verdict::Name => 11,
-        Verdict::Full => 12,
+    match refusal {
+        Refusal::Layout => 1,
+        Refusal::Station(_) => 2,
+        Refusal::Reservoir(_) => 3,
+        Refusal::Pattern(_) => 4,
+        Refusal::Right(_) => 5,
+        Refusal::Lists => 6,
+        Refusal::Board => 7,
+        Refusal::Runoff(_) => 8,
+        Refusal::Book => 9,
+        Refusal::Year => 10,
+        Refusal::Name => 11,
+        Refusal::Full => 12,
     }
 }
 
 // The first at fault, where there is one.
-fn place(verdict: Verdict) -> usize
-    ensures { result ≡ place_of verdict }
+fn place(refusal: Refusal) -> usize
+    ensures { result ≡ place_of refusal }
 {
-    match verdict {
-        Verdict::Accepted => 0,
-        Verdict::Layout => 0,
-        Verdict::Station(i) => i,
-        Verdict::Reservoir(i) => i,
-        Verdict::Pattern(i) => i,
-        Verdict::Right(i) => i,
-        Verdict::Lists => 0,
-        Verdict::Board => 0,
-        Verdict::Runoff(i) => i,
-        Verdict::Book => 0,
-        Verdict::Year => 0,
-        Verdict::Name => 0,
-        Verdict::Full => 0,
+    match refusal {
+        Refusal::Station(i) => i,
+        Refusal::Reservoir(i) => i,
+        Refusal::Pattern(i) => i,
+        Refusal::Right(i) => i,
+        Refusal::Runoff(i) => i,
+        _ => 0,
     }
 }
 
-pub fn tell(verdict: Verdict) -> Answer
-    ensures { answer_of result ≡ told verdict }
-{
-    Answer {
-        number: number(verdict),
-        place: place(verdict) as u64,
+impl From<Refusal> for Answer {
+    ghost from_gives = { λ r a. answer_of a ≡ told r };
+
+    fn from(refusal: Refusal) -> Answer {
+        Answer {
+            number: number(refusal),
+            place: place(refusal) as u64,
+        }
     }
 }
 
-// The answer on the file alone.
-pub fn judge_file(file: &[u8]) -> Answer
-    ensures { answer_of result ≡ settled (file_refusal file.now) }
-{
-    tell(check(file))
+impl From<Result<(), Refusal>> for Answer {
+    ghost from_gives = { λ v a. answer_of a ≡ verdict_answer v };
+
+    fn from(verdict: Result<(), Refusal>) -> Answer {
+        Answer::from(verdict.map(|()| 0))
+    }
+}
+
+// Of an accepted call the place is what it counted.
+impl From<Result<usize, Refusal>> for Answer {
+    ghost from_gives = { λ c a. answer_of a ≡ count_answer c };
+
+    fn from(count: Result<usize, Refusal>) -> Answer {
+        match count {
+            Ok(n) => Answer {
+                number: 0,
+                place: n as u64,
+            },
+            Err(refusal) => Answer::from(refusal),
+        }
+    }
 }

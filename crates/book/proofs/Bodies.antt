@@ -1,8 +1,11 @@
 -- Laws of the book's layout, and of a year's place in its table. Assumes nothing.
-use Rattle.std.specs.Prelude.{Option}
+use Rattle.std.specs.Prelude.{Option, Some}
+use Rattle.std.specs.List.{find, range_with_len}
+use Rattle.std.specs.Option.{option_map}
+use Rattle.std.proofs.lemmas.Iterator.Adapters.{option_map_id}
 use mathlib.Core.Path.{◌≡◌, refl, sym, ap, ◌∙◌}
 use mathlib.Core.Bool.{Bool, false}
-use mathlib.Core.List.{List, []}
+use mathlib.Core.List.{List}
 use Prim.Native.Nat.{ℕ, ◌+◌, ◌-◌, ◌*◌, ◌≤◌, ◌<◌}
 use native.Mathlib.Nat.{mul-le-mul}
 use native.Mathlib.Omega.{arith}
@@ -12,9 +15,9 @@ use lib.ListN.{length, take, drop, length-drop}
 use lib.Seq.{length-take-le}
 use Rattle.general.specs.Tests.{◌and◌, first_at, all_to}
 use Rattle.general.proofs.Tests.{both_of, eq_of, le_of}
-use Rattle.general.proofs.Search.{all-at}
-use Rattle.general.proofs.Loops.{search-here, search-on, search-over, step-within}
-use Rattle.book.specs.Book.{most_years, year_count, entry_at, year_at, offset_at, body_size, packed_at, entry_ok, book_ok, listed_at, body_of, body_where, listed_body, Kept}
+use Rattle.general.proofs.Search.{all-at, found-first, first-within}
+use Rattle.general.proofs.Loops.{step-within}
+use Rattle.book.specs.Book.{most_years, year_count, entry_at, year_at, offset_at, body_size, packed_at, entry_ok, book_ok, listed_at, body_of, Kept}
 
 -- ---- sizes
 
@@ -92,22 +95,13 @@ module _ (n : ℕ) (k : List ℕ) where
   unfolding body_of
   body-length h i l = length-take-le (body_size n) (drop (offset_at k i) k) (omega (arith, (within h i l).body, length-drop (offset_at k i) k))
 
-  -- ---- the search
-
-  abbrev pub body_from : ℕ → ℕ → ℕ → List ℕ
-  body_from y c i = body_where (first_at (c - i) i (λ j. eqb (year_at k j) y)) n k
-
-  pub from_start : (y c : ℕ) → c ≡ year_count k → body_from y c 0 ≡ listed_body n k y
+  pub listed-within : (y i : ℕ) → listed_at k y ≡ Some i → i < year_count k
   unfolding listed_at
-  from_start y c e = let g : c - 0 ≡ year_count k = omega arith in ap (λ (x : ℕ). body_where (first_at x 0 (λ j. eqb (year_at k j) y)) n k) g
+  listed-within y i e = omega (arith, first-within (λ j. eqb (year_at k j) y) (year_count k) 0 i e)
 
-  pub from-here : (y c i : ℕ) {x : ℕ} → i < c → x ≡ year_at k i → x ≡ y → body_of n k i ≡ body_from y c i
-  unfolding body_where
-  from-here y c i l e h = rw (search-here (λ j. eqb (year_at k j) y) c i l (eq-eqb (year_at k i) y (sym e ∙ h)))
-
-  pub from_next : (y c i : ℕ) {x : ℕ} → i < c → x ≡ year_at k i → (x ≡ y → ⊥) → body_from y c (i + 1) ≡ body_from y c i
-  from_next y c i l e h = sym (ap (λ (o : Option ℕ). body_where o n k) (search-on (λ j. eqb (year_at k j) y) c i l (ne_eqb (year_at k i) y (λ z. h (e ∙ z)))))
-
-  pub from_end : (y c i : ℕ) → c ≤ i → [] ≡ body_from y c i
-  unfolding body_where
-  from_end y c i l = rw (search-over (λ j. eqb (year_at k j) y) c i l)
+-- a year's place as the library's search over the table finds it
+pub listed : (k : List ℕ) (y c : ℕ) {r : Option ℕ} → c ≡ year_count k → option_map (λ x. x) r ≡ find (λ j. eqb (year_at k j) y) (range_with_len 0 c) → r ≡ listed_at k y
+unfolding listed_at
+listed k y c {r} e f =
+    let t : ℕ → Bool = λ j. eqb (year_at k j) y in
+    sym (option_map_id r) ∙ f ∙ found-first t c 0 ∙ ap (λ (n : ℕ). first_at n 0 t) e

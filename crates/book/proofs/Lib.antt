@@ -1,3 +1,3 @@
 pub mod Bodies
-pub mod LookUp
 pub mod Examples
+pub mod LookUp

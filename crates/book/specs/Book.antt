@@ -3,7 +3,7 @@
 use Rattle.std.specs.Prelude.{◌≡◌, Bool, true, ◌||◌, List, [], ℕ, ◌+◌, ◌-◌, ◌*◌, ◌≤◌, leb, ltb, eqb, length, take, drop, Option, None, Some, is_some}
 use Rattle.general.specs.Tests.{◌and◌, between, first_at, all_to}
 use Rattle.rules.specs.Basin.{rows}
-use Rattle.rules.specs.declared.Verdict.TheVariants.{Book, Year}
+use Rattle.rules.specs.declared.Refusal.TheVariants.{Book, Year}
 use Rattle.rules.specs.Answers.{Answer, or_else, unless}
 use Rattle.numbers.specs.Bytes.{le32_at}
 use Rattle.sheets.specs.Sheets.{sheet_size}

@@ -1,7 +1,7 @@
 // The book's table of contents, and the parts of the book that it names. `rows` is the number of stations.
-ghost use Rattle.std.specs.Prelude.{◌≡◌, true, ◌+◌, ◌≤◌, ◌<◌, length};
+ghost use Rattle.std.specs.Prelude.{◌≡◌, true, ◌+◌, ◌≤◌, ◌<◌, length, option_copied, option_map};
 ghost use Rattle.general.specs.Tests.{all_to};
-ghost use Rattle.book.specs.Book.{most_years, year_count, entry_at, year_at, offset_at, body_size, packed_at, rises, entry_ok, book_ok, listed_body, body_of, Kept, Headed};
+ghost use Rattle.book.specs.Book.{most_years, year_count, entry_at, year_at, offset_at, body_size, packed_at, rises, entry_ok, book_ok, listed_at, body_of, Kept, Headed};
 
 use numbers::bytes::le32;
 use numbers::{all_below, in_range};
@@ -109,16 +109,11 @@ fn body_at<'a>(rows: usize, book: &'a [u8], i: usize) -> &'a [u8]
     &book[start..stop]
 }
 
-// The body of a year; an empty part where the book does not list the year.
-pub fn listed_body<'a>(rows: usize, book: &'a [u8], year: u32) -> &'a [u8]
+// The body of a year, where the book lists it.
+pub fn listed_body<'a>(rows: usize, book: &'a [u8], year: u32) -> Option<&'a [u8]>
     requires { Kept rows book.now }
-    ensures { result.now ≡ listed_body rows book.now year }
+    ensures { option_copied result ≡ option_map (body_of rows book.now) (listed_at book.now year) }
 {
-    let count = year_count(book);
-    for i in 0..count {
-        if year_at(book, i) == year {
-            return body_at(rows, book, i);
-        }
-    }
-    &book[..0]
+    let i = (0..year_count(book)).find(|&i| year_at(book, i) == year)?;
+    Some(body_at(rows, book, i))
 }

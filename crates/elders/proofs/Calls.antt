@@ -11,6 +11,7 @@ use Rattle.general.proofs.Tables.{tab-at}
 use Rattle.places.specs.Board.{storage_at, marks_at, taken_at, due_at}
 use Rattle.places.specs.Report.{from_river_place, from_storage_place, reason_place, station_place}
 use Rattle.rules.specs.Answers.{Answer, or_else}
+use Rattle.rules.proofs.Answers.{or-first}
 use Rattle.rules.specs.Basin.{Station, Reservoir, Basin, rows}
 use Rattle.rules.specs.Elders.{SameRiver, turn_without_taken, CarriedAlike}
 use Rattle.rules.specs.Month.{grant_at, MonthRun, month, reason_number}
@@ -21,7 +22,7 @@ use Rattle.records.specs.Records.{basin_of}
 use Rattle.boards.specs.Board.{carried_of}
 use Rattle.boards.specs.Report.{report_of}
 use Rattle.boards.proofs.Report.{river-place, storage-place, reason-place, station-place}
-use Rattle.answers.specs.Answers.{lent_refusal, settled}
+use Rattle.answers.specs.Answers.{lent_refusal}
 use Rattle.answers.proofs.Answers.{Clear, lent-clear}
 use Rattle.answers.proofs.Numbered.{Numbered}
 use Rattle.month.specs.Month.{all_fit, month_refusal, run_of, Outcome, month_settled, month_of}
@@ -74,11 +75,6 @@ unfolding month_settled
 settled-none None w b runoff board report n = refl
 settled-none (Some a) w b runoff board report n = absurd (w n)
 
-first-none : (x y : Option Answer) → or_else x y ≡ None → x ≡ None
-unfolding or_else
-first-none None y e = refl
-first-none (Some a) y e = e
-
 module _ (f runoff board report : List ℕ) (o : Outcome) (c : AcceptedCall f runoff board report o) where
   abbrev b : Basin
   b = basin_of f
@@ -93,11 +89,10 @@ module _ (f runoff board report : List ℕ) (o : Outcome) (c : AcceptedCall f ru
 
   not-lent : lent ≡ None
   unfolding month_refusal
-  not-lent = first-none lent (over_answer (over_limit runoff)) not-refused
+  not-lent = or-first lent (over_answer (over_limit runoff)) not-refused
 
   pub all-clear : Clear f (all_fit b runoff board report) board
-  unfolding settled
-  all-clear = lent-clear f (all_fit b runoff board report) board (settled lent) refl (ap (λ (v : Option Answer). (settled v).number) not-lent)
+  all-clear = lent-clear f (all_fit b runoff board report) board not-lent
 
   pub not-over : over_answer (over_limit runoff) ≡ None
   unfolding month_refusal or_else

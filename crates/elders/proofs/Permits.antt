@@ -1,5 +1,5 @@
 -- New permits: a board that is possible without them is possible with them, and a month that is accepted without them is accepted with them. Assumes nothing.
-use Rattle.std.specs.Prelude.{Option, None}
+use Rattle.std.specs.Prelude.{Option, None, Ok}
 use mathlib.Core.Path.{◌≡◌, sym, ap, ◌∙◌}
 use mathlib.Core.Bool.{Bool, true, false}
 use mathlib.Core.List.{List}
@@ -18,7 +18,6 @@ use Rattle.rules.specs.Answers.{Answer}
 use Rattle.rules.specs.Elders.{SameRiver}
 use Rattle.rules.specs.Tally.{report_length, lists_fit}
 use Rattle.rules.specs.Theorems.{most_due}
-use Rattle.rules.specs.declared.Verdict.TheVariants.{Accepted}
 use Rattle.records.specs.Records.{basin_of}
 use Rattle.filecheck.specs.Check.{check_of}
 use Rattle.boards.specs.Board.{possible}
@@ -66,7 +65,7 @@ module _ (a b : Basin) (e : SameRiver a b) (more : length a.rights ≤ length b.
 -- ---- the call
 
 module _ (f g runoff board lent lent' : List ℕ) (o p : Outcome) (c : AcceptedCall f runoff board lent o) (rows_same : rows (basin_of f) ≡ rows (basin_of g))
-    (ok : check_of g ≡ Accepted) (can : possible (basin_of g) board ≡ true) (room : report_length (basin_of g) ≤ length lent') (m : MonthMeets g runoff board lent' p) where
+    (ok : check_of g ≡ Ok tt) (can : possible (basin_of g) board ≡ true) (room : report_length (basin_of g) ≤ length lent') (m : MonthMeets g runoff board lent' p) where
   fits-with : all_fit (basin_of g) runoff board lent' ≡ true
   unfolding all_fit lists_fit
   fits-with =

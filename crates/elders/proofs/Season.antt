@@ -1,5 +1,5 @@
 -- The season computed. By the claim the calls tell the tally's months, so that no board has to be computed. Assumes nothing.
-use Rattle.std.specs.Prelude.{Option, None}
+use Rattle.std.specs.Prelude.{Option, None, Ok}
 use mathlib.Core.Path.{◌≡◌, refl, sym, ◌∙◌, subst}
 use mathlib.Core.List.{List, [], ◌∷◌}
 use Prim.Native.Nat.{ℕ, ◌<◌}
@@ -9,7 +9,6 @@ use Rattle.general.specs.Sums.{sum_over, sum_to}
 use Rattle.general.specs.Tables.{tab}
 use Rattle.general.specs.Tests.{◌and◌, has, first_at, bit}
 use Rattle.general.specs.Routes.{follow}
-use Rattle.rules.specs.declared.Verdict.TheVariants.{Accepted}
 use Rattle.rules.specs.Answers.{Answer, or_else, unless}
 use Rattle.rules.specs.Basin.{Basin}
 use Rattle.rules.specs.Path.{carries_on, row_below, path, until_row}
@@ -81,7 +80,7 @@ line-told f t e w accepted h =
     let tells : Tells (basin_of f) (next_run (basin_of f) t (call_of e)) e.report e.outcome.report = subst (λ (v : Option Answer). MonthReport v (basin_of f) t e) accepted w.report in
     λ z. tells.from-river 0 h z ∷ tells.from-storage 0 h z ∷ tells.reason 0 h z ∷ tells.station 0 h z ∷ []
 
-module _ (f : List ℕ) (ok : check_of f ≡ Accepted) {october_short november_short : ℕ} {october_line november_line : List ℕ} (w : Tallied (basin_of f) october_short october_line november_short november_line) where
+module _ (f : List ℕ) (ok : check_of f ≡ Ok tt) {october_short november_short : ℕ} {october_line november_line : List ℕ} (w : Tallied (basin_of f) october_short october_line november_short november_line) where
   abbrev october_made : MonthCall
   october_made = record { runoff = october_sheet; report = lent_list; outcome = october_call f }
 
@@ -127,8 +126,8 @@ alone = rw october-checked.alone_decoded tallied-so.1
 
 pub season : Season
 season =
-    let ok : check_of october_file ≡ Accepted = october-checked.accepted in
-    let alone-ok : check_of elder_alone_file ≡ Accepted = october-checked.alone_accepted in
+    let ok : check_of october_file ≡ Ok tt = october-checked.accepted in
+    let alone-ok : check_of elder_alone_file ≡ Ok tt = october-checked.alone_accepted in
     record {
       elders = elders-so;
       one_board = fresh-left october_file ok with-younger ∙ one_fresh_board october_file elder_alone_file 1 elders-so ∙ sym (fresh-left elder_alone_file alone-ok alone);

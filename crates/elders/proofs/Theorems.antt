@@ -1,11 +1,11 @@
 -- Younger rights can't touch this month's elder ones: the theorems of specs/Elders.antt. Assumes nothing.
+use Rattle.std.specs.Prelude.{Ok}
 use mathlib.Core.Path.{◌≡◌, sym, ap, ◌∙◌}
 use mathlib.Core.Bool.{true}
 use mathlib.Core.List.{List}
 use Prim.Native.Nat.{ℕ, ◌≤◌}
 use native.Mathlib.Omega.{arith}
 use lib.ListN.{length, take}
-use Rattle.rules.specs.declared.Verdict.TheVariants.{Accepted}
 use Rattle.rules.specs.Basin.{Station, Basin, rows}
 use Rattle.rules.specs.Elders.{SameRiver}
 use Rattle.rules.specs.Month.{grant_at, reason_number}
@@ -43,7 +43,7 @@ module _ (f g : List ℕ) (k : ℕ) (e : SameElders f g k) where
   second_has : k ≤ length (basin_of g).rights
   second_has = rw (all_there g) e.second_has
 
-  elders-same : check_of f ≡ Accepted → take k (basin_of f).rights ≡ take k (basin_of g).rights
+  elders-same : check_of f ≡ Ok tt → take k (basin_of f).rights ≡ take k (basin_of g).rights
   unfolding basin_of bodies
   elders-same ok = first-rights (section_of f 3) (section_of g 3) k e.rights e.first_has e.second_has (points-most f (accepted-facts f ok))
 

@@ -1,7 +1,6 @@
 -- Younger rights can't touch this month's elder ones (02, No. 8): of any two files, and any two month calls that are accepted. It cites only definitions;
 -- proofs/Theorems.antt proves it. It is said of a month and not of a season: in specs/Season.antt a younger right's return helps an elder one a month later.
-use Rattle.std.specs.Prelude.{◌≡◌, true, List, ℕ, ◌*◌, ◌≤◌, ◌<◌, length, get_or, take}
-use Rattle.rules.specs.declared.Verdict.TheVariants.{Accepted}
+use Rattle.std.specs.Prelude.{◌≡◌, true, List, ℕ, ◌*◌, ◌≤◌, ◌<◌, length, get_or, take, Ok}
 use Rattle.rules.specs.Tally.{report_length}
 use Rattle.places.specs.Report.{from_river_place, from_storage_place, reason_place, station_place}
 use Rattle.sections.specs.File.{width_of, section_of}
@@ -48,7 +47,7 @@ pub record Unharmed (f g runoff board lent : List ℕ) (o p : Outcome) : Type 0 
 
 -- It is so in every month that is accepted without them, on whatever board, if the file with them is accepted and the list for its report is long enough.
 abbrev pub NewPermits : Type 0
-NewPermits = (f g : List ℕ) → SameElders f g (right_count (section_of f 3)) → check_of g ≡ Accepted → (runoff board lent lent' : List ℕ) (o p : Outcome)
+NewPermits = (f g : List ℕ) → SameElders f g (right_count (section_of f 3)) → check_of g ≡ Ok tt → (runoff board lent lent' : List ℕ) (o p : Outcome)
     → AcceptedCall f runoff board lent o → report_length (basin_of g) ≤ length lent' → MonthMeets g runoff board lent' p
     → Unharmed f g runoff board lent' o p
 
@@ -60,7 +59,7 @@ OneFreshBoard = (f g : List ℕ) (k : ℕ) → SameElders f g k → fresh_board 
 -- ---- what an accepted call says of what it was lent: the file is accepted, and the board possible for it
 
 pub record GoodLent (f board : List ℕ) : Type 0 where
-  pub file_accepted : check_of f ≡ Accepted
+  pub file_accepted : check_of f ≡ Ok tt
   pub board_possible : possible (basin_of f) board ≡ true
 
 abbrev pub AcceptedLent : Type 0

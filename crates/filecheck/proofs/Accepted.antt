@@ -1,5 +1,5 @@
 -- What an accepted file gives to the rules. Assumes nothing.
-use Rattle.std.specs.Prelude.{is_some}
+use Rattle.std.specs.Prelude.{Ok, is_some}
 use mathlib.Core.Path.{◌≡◌, refl, sym, ap, ◌∙◌, subst}
 use mathlib.Core.Logic.{◌⊎◌, inl, inr}
 use mathlib.Core.Bool.{Bool, true, false, cond}
@@ -12,15 +12,14 @@ use Rattle.general.specs.Sums.{sum, sum_to}
 use Rattle.general.specs.Tables.{tab, All, Rising}
 use Rattle.general.specs.Tests.{◌and◌, has}
 use Rattle.general.proofs.Tests.{by_eqb, eqb-other, both_of, between-of, eq_of, le_of, lt_of}
-use Rattle.general.proofs.Search.{no-fault, some_of, all-at}
+use Rattle.general.proofs.Search.{some_of, all-at}
 use Rattle.general.proofs.Tables.{tab-length, sum-tab}
 use Rattle.general.proofs.Entries.{all-tab, tab-most, tab-none, map-tab}
 use Rattle.rules.specs.Basin.{Survey, Reservoir, Point, Right, Basin, no_reservoir, reservoir_at}
 use Rattle.rules.specs.Path.{row_below, path}
-use Rattle.rules.specs.Accepted.{Connected, GoodReservoir, GoodPattern, ReservoirOk, Unreturned, Returned, ReturnsOk, GoodRight, Accepted as Acceptable}
+use Rattle.rules.specs.Accepted.{Connected, GoodReservoir, GoodPattern, ReservoirOk, Unreturned, Returned, ReturnsOk, GoodRight, Accepted}
 use Rattle.rules.specs.Theorems.{AreaFacts}
 use Rattle.rules.proofs.Theorems.{areas}
-use Rattle.rules.specs.declared.Verdict.TheVariants.{Accepted, Layout}
 use Rattle.records.specs.declared.rights.Kind.{Kind}
 use Rattle.records.specs.declared.rights.Kind.TheVariants.{Direct, Project, Instream, Storage}
 use Rattle.records.specs.declared.rights.RightRecord.{RightRecord}
@@ -35,7 +34,7 @@ use Rattle.sections.proofs.Parts.{laid}
 use Rattle.records.proofs.Counted.{rows-counted, reservoirs-counted, patterns-counted, rights-counted}
 use Rattle.records.proofs.Decoded.{basin-same, reservoirs-are, reservoir-is, patterns-are, rights-are}
 use Rattle.records.proofs.Rows.{rows_are}
-use Rattle.filecheck.proofs.Faults.{check-refuses, check-goes-on, stations-clear, reservoirs-clear, patterns-clear, rights-clear}
+use Rattle.filecheck.proofs.Faults.{check-refuses, check-goes-on, and-clear, stations-clear, reservoirs-clear, patterns-clear, rights-clear}
 use Rattle.filerules.proofs.Cases.{all-consumed, returns-shared, few_points}
 
 -- ---- each record of an accepted file keeps its rules
@@ -46,21 +45,20 @@ record Clear (st rs ps s : List ℕ) : Type 0 where
   patterns : (p : ℕ) → p < pattern_count ps → pattern_ok ps p ≡ true
   rights : (i : ℕ) → i < right_count s → right_ok st rs (pattern_count ps) s i ≡ true
 
-bodies-clear : (st rs ps s : List ℕ) → bodies_verdict st rs ps s ≡ Accepted → Clear st rs ps s
+bodies-clear : (st rs ps s : List ℕ) → bodies_verdict st rs ps s ≡ Ok tt → Clear st rs ps s
 unfolding bodies_verdict
 bodies-clear st rs ps s e =
-    let a = stations-clear st rs ps s _ e in
-    let b = reservoirs-clear st rs ps s _ a.1 in
-    let c = patterns-clear st rs ps s _ b.1 in
-    let d = rights-clear st rs ps s _ c.1 in
-    record { stations = no-fault _ _ a.0; reservoirs = no-fault _ _ b.0; patterns = no-fault _ _ c.0; rights = no-fault _ _ d.0 }
+    let a = and-clear _ _ e in
+    let b = and-clear _ _ a.1 in
+    let c = and-clear _ _ b.1 in
+    record { stations = stations-clear st a.0; reservoirs = reservoirs-clear st rs b.0; patterns = patterns-clear ps c.0; rights = rights-clear st rs ps s c.1 }
 
-layout-clear : (f : List ℕ) → check_of f ≡ Accepted → layout_ok f ≡ true
+layout-clear : (f : List ℕ) → check_of f ≡ Ok tt → layout_ok f ≡ true
 layout-clear f e = go (layout_ok f) refl
   where
     go : (b : Bool) → layout_ok f ≡ b → layout_ok f ≡ true
     go true l = l
-    go false l = let g : Layout ≡ Accepted = check-refuses f l ∙ e in absurd (let z : ◌≡◌ {A = ℕ} 0 1 = cc in omega arith)
+    go false l = cc (check-refuses f l)
 
 -- ---- stations
 
@@ -237,7 +235,7 @@ module _ (st rs ps s : List ℕ) (k : Clear st rs ps s) where
   -- ---- the whole basin
 
   module _ (few : (1 ≤ rows_of st) × (rows_of st ≤ 64)) (few-rs : reservoir_count rs ≤ 8) (few-ps : pattern_count ps ≤ 16) (few-s : right_count s ≤ 256) where
-    acceptable : Acceptable basin
+    acceptable : Accepted basin
     unfolding reservoirs_of rights_of
     acceptable = record {
       few_rows = rw (rows_are st) few.1;
@@ -250,7 +248,7 @@ module _ (st rs ps s : List ℕ) (k : Clear st rs ps s) where
       rights_good = all-tab (GoodRight basin) (right_count s) (right_of s) (λ i h. good_right i (k.rights i h));
     }
 
-clear_of : (f : List ℕ) → check_of f ≡ Accepted → Clear (section_of f 0) (section_of f 1) (section_of f 2) (section_of f 3)
+clear_of : (f : List ℕ) → check_of f ≡ Ok tt → Clear (section_of f 0) (section_of f 1) (section_of f 2) (section_of f 3)
 clear_of f e = bodies-clear (section_of f 0) (section_of f 1) (section_of f 2) (section_of f 3) (sym (check-goes-on f (layout-clear f e)) ∙ e)
 
 pub accepted-facts : AcceptedFacts
@@ -270,5 +268,5 @@ unfolding basin_of bodies
 lake-areas f e v h = lake-areas-of (section_of f 0) (section_of f 1) (section_of f 2) (section_of f 3) (clear_of f e) v h
 
 -- the same of its bodies as the code has them
-pub accepted-in : (f : List ℕ) (w : Bodies) → BodiesOf f w → check_of f ≡ Accepted → Acceptable (basin_in w)
-accepted-in f w o e = subst Acceptable (sym (basin-same f w o)) (accepted-facts f e)
+pub accepted-in : (f : List ℕ) (w : Bodies) → BodiesOf f w → check_of f ≡ Ok tt → Accepted (basin_in w)
+accepted-in f w o e = subst Accepted (sym (basin-same f w o)) (accepted-facts f e)

@@ -6,7 +6,6 @@ use Prim.Native.Nat.{ℕ, suc, ◌+◌, ◌-◌, ◌≤◌, ◌<◌}
 use native.Mathlib.Numerals.{add-one}
 use native.Mathlib.Omega.{arith}
 use lib.ListN.{length, set, replicate}
-use Rattle.rules.specs.declared.Verdict.TheVariants.{Accepted, Station}
 use Rattle.general.specs.Tables.{tab}
 use Rattle.general.specs.Tests.{first_at}
 use Rattle.general.proofs.Fill.{filled, fill_none, fill_more}
@@ -31,10 +30,6 @@ module _ (s : List ℕ) where
 
   pub found_none : replicate 64 255 ≡ found_to 0
   found_none = fill_none code 255 64
-
-  -- a refused row leaves nothing to show of the table
-  pub found-lost : (t : List ℕ) (i : ℕ) → Station i ≡ Accepted → TableFor s t
-  found-lost t i g = let z : ◌≡◌ {A = ℕ} 0 1 = cc in absurd (omega arith)
 
   module _ (i q : ℕ) (b : Option ℕ) (e : b ≡ row_below (stations_of s) i) (g : b ≡ Some q) where
     -- a row's number fits in a byte, since there are at most 64

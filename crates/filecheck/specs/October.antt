@@ -1,7 +1,7 @@
 -- 01's "One October, whole" as the bytes of a file, and the check of this file and of files like it with one fault each.
-use Rattle.std.specs.Prelude.{◌≡◌, List, [], ◌∷◌, ◌++◌, ℕ, ◌/◌, ◌%◌, set, replicate, take}
+use Rattle.std.specs.Prelude.{◌≡◌, Ok, Err, List, [], ◌∷◌, ◌++◌, ℕ, ◌/◌, ◌%◌, set, replicate, take}
 use Rattle.rules.specs.October.{october, elder_alone}
-use Rattle.rules.specs.declared.Verdict.TheVariants.{Accepted, Layout, Station, Reservoir, Pattern, Right}
+use Rattle.rules.specs.declared.Refusal.TheVariants.{Layout, Station, Reservoir, Pattern, Right}
 use Rattle.records.specs.Records.{basin_of}
 use Rattle.filecheck.specs.Check.{check_of}
 
@@ -47,32 +47,32 @@ unfoldable pub elder_alone_file : List ℕ
 elder_alone_file = set (take 212 october_file) 28 1
 
 pub record OctoberChecked : Type 0 where
-  pub accepted : check_of october_file ≡ Accepted
+  pub accepted : check_of october_file ≡ Ok tt
   -- it describes the basin of the rules' October
   pub decoded : basin_of october_file ≡ october
   -- so does the one with its first right alone
-  pub alone_accepted : check_of elder_alone_file ≡ Accepted
+  pub alone_accepted : check_of elder_alone_file ≡ Ok tt
   pub alone_decoded : basin_of elder_alone_file ≡ elder_alone
   -- the last byte missing
-  pub cut_short : check_of (take 515 october_file) ≡ Layout
+  pub cut_short : check_of (take 515 october_file) ≡ Err Layout
   -- reservoirs said to start one byte later
-  pub gap : check_of (set october_file 8 57) ≡ Layout
+  pub gap : check_of (set october_file 8 57) ≡ Err Layout
   -- station 100 of order 3: it finds no row below, though there is a next row
-  pub lost_row : check_of (set october_file 36 3) ≡ Station 0
+  pub lost_row : check_of (set october_file 36 3) ≡ Err (Station 0)
   -- the last station of order 2: the row above it finds none, and comes first
-  pub last_order : check_of (set october_file 52 2) ≡ Station 1
+  pub last_order : check_of (set october_file 52 2) ≡ Err (Station 1)
   -- a zero byte of the reservoir set
-  pub zero_byte : check_of (set october_file 57 1) ≡ Reservoir 0
+  pub zero_byte : check_of (set october_file 57 1) ≡ Err (Reservoir 0)
   -- percents that sum to 80, and to 0
-  pub seeping : check_of (set october_file 126 0) ≡ Accepted
-  pub all_deep : check_of (set (set (set october_file 124 0) 125 0) 126 0) ≡ Accepted
+  pub seeping : check_of (set october_file 126 0) ≡ Ok tt
+  pub all_deep : check_of (set (set (set october_file 124 0) 125 0) 126 0) ≡ Ok tt
   -- percents that sum to 101
-  pub one_over : check_of (set october_file 127 1) ≡ Pattern 0
+  pub one_over : check_of (set october_file 127 1) ≡ Err (Pattern 0)
   -- percents that sum to 356, which is 100 in eight bits
-  pub over_full : check_of (set (set october_file 127 255) 128 1) ≡ Pattern 0
+  pub over_full : check_of (set (set october_file 127 255) 128 1) ≡ Err (Pattern 0)
   -- a right without points at efficiency 99
-  pub unpointed : check_of (set october_file 147 99) ≡ Right 0
+  pub unpointed : check_of (set october_file 147 99) ≡ Err (Right 0)
   -- a storage right at another row than its reservoir
-  pub misplaced : check_of (set october_file 297 1) ≡ Right 2
+  pub misplaced : check_of (set october_file 297 1) ≡ Err (Right 2)
   -- a storage right in all but its byte, which is 5
-  pub kind_unknown : check_of (set october_file 296 5) ≡ Right 2
+  pub kind_unknown : check_of (set october_file 296 5) ≡ Err (Right 2)

@@ -1,4 +1,4 @@
-// The check of a whole file: its layout, then its bodies in order. It takes any bytes, and every answer is a verdict.
+// The check of a whole file: its layout, then its bodies in order. It takes any bytes.
 ghost use Rattle.std.specs.Prelude.{◌≡◌, ◌≤◌, ◌<◌};
 ghost use Rattle.records.specs.Records.{rows_of};
 ghost use Rattle.filecheck.specs.Check.{bodies_verdict, check_of};
@@ -8,36 +8,27 @@ use crate::reservoirs::check_reservoirs;
 use crate::rights::check_rights;
 use crate::stations::check_stations;
 use records::bodies::Bodies;
-use rules::Verdict;
+use rules::Refusal;
 use sections::layout_ok;
 
 // Stations come first: the rows that later bodies name are then known to be good, and each row below has been found.
-fn check_bodies(bodies: &Bodies<'_>) -> Verdict
+fn check_bodies(bodies: &Bodies<'_>) -> Result<(), Refusal>
     requires { (0 < rows_of bodies.now.stations.now) × (rows_of bodies.now.stations.now ≤ 64) }
     ensures { result ≡ bodies_verdict bodies.now.stations.now bodies.now.reservoirs.now bodies.now.patterns.now bodies.now.rights.now }
 {
     let mut below = [255u8; 64];
-    let on_stations = check_stations(bodies.stations, &mut below);
-    let Verdict::Accepted = on_stations else {
-        return on_stations;
-    };
-    let on_reservoirs = check_reservoirs(bodies.stations, bodies.reservoirs);
-    let Verdict::Accepted = on_reservoirs else {
-        return on_reservoirs;
-    };
-    let on_patterns = check_patterns(bodies.patterns);
-    let Verdict::Accepted = on_patterns else {
-        return on_patterns;
-    };
+    check_stations(bodies.stations, &mut below)?;
+    check_reservoirs(bodies.stations, bodies.reservoirs)?;
+    check_patterns(bodies.patterns)?;
     check_rights(bodies, &below)
 }
 
 // The verdict on any bytes.
-pub fn check(file: &[u8]) -> Verdict
+pub fn check(file: &[u8]) -> Result<(), Refusal>
     ensures { result ≡ check_of file.now }
 {
     if !layout_ok(file) {
-        return Verdict::Layout;
+        return Err(Refusal::Layout);
     }
     check_bodies(&Bodies::of(file))
 }

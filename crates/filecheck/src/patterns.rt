@@ -3,17 +3,15 @@ ghost use Rattle.std.specs.Prelude.{◌≡◌};
 ghost use Rattle.filecheck.specs.Check.{patterns_verdict};
 
 use records::patterns::percent_sum;
-use rules::Verdict;
+use rules::Refusal;
 
 // The first pattern at fault.
-pub fn check_patterns(patterns: &[u8]) -> Verdict
-    ensures { result ≡ patterns_verdict patterns.now Verdict.Accepted }
+pub fn check_patterns(patterns: &[u8]) -> Result<(), Refusal>
+    ensures { result ≡ patterns_verdict patterns.now }
 {
     let n = patterns.len() / 12;
-    for p in 0..n {
-        if percent_sum(patterns, p) > 100 {
-            return Verdict::Pattern(p);
-        }
+    match (0..n).find(|&p| percent_sum(patterns, p) > 100) {
+        Some(p) => Err(Refusal::Pattern(p)),
+        None => Ok(()),
     }
-    Verdict::Accepted
 }

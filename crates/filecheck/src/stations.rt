@@ -9,34 +9,34 @@ use filerules::stations::plain_ok;
 use numbers::both;
 use records::network::row_below;
 use records::stations::station_at;
-use rules::Verdict;
+use rules::Refusal;
 
 // The last row has nowhere to go on to, and its own order is asked instead.
-fn check_last(stations: &[u8], last: usize) -> Verdict
+fn check_last(stations: &[u8], last: usize) -> Result<(), Refusal>
     requires { last + 1 ≡ rows_of stations.now }
-    ensures { result ≡ only_if (station_ok stations.now last) (Verdict.Station last) }
+    ensures { result ≡ only_if (station_ok stations.now last) (Refusal.Station last) }
 {
     let x = station_at(stations, last);
     if both(plain_ok(stations, last), x.order == 1) {
-        return Verdict::Accepted;
+        return Ok(());
     }
-    Verdict::Station(last)
+    Err(Refusal::Station(last))
 }
 
 // The first row at fault. A row above the last has to find a row to go on to; what it finds goes into the table, by which the rights' rules
 // walk down the river. The last row's place keeps the number that stands for none.
-pub fn check_stations(stations: &[u8], below: &mut [u8; 64]) -> Verdict
+pub fn check_stations(stations: &[u8], below: &mut [u8; 64]) -> Result<(), Refusal>
     requires { (0 < rows_of stations.now) × (rows_of stations.now ≤ 64) × (below.old ≡ replicate 64 255) }
-    ensures value { result ≡ stations_verdict stations.now Verdict.Accepted }
-    ensures table_for { result ≡ Verdict.Accepted → TableFor stations.now below.new }
+    ensures value { result ≡ stations_verdict stations.now }
+    ensures table_for { result ≡ Ok tt → TableFor stations.now below.new }
 {
     let last = stations.len() / 8 - 1;
     for row in 0..last {
         if !plain_ok(stations, row) {
-            return Verdict::Station(row);
+            return Err(Refusal::Station(row));
         }
         let Some(next) = row_below(stations, row) else {
-            return Verdict::Station(row);
+            return Err(Refusal::Station(row));
         };
         below[row] = next as u8;
     }

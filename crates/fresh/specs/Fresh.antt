@@ -1,14 +1,13 @@
 -- The call fresh: the board that a basin starts from, for every file and every list, refusals included.
 use Rattle.std.specs.Prelude.{List, ◌≡◌, ℕ, ◌<◌, length, get_or, Option, None, Some}
 use Rattle.places.specs.Board.{storage_place, storage_at}
-use Rattle.rules.specs.declared.Verdict.TheVariants.{Lists}
+use Rattle.rules.specs.declared.Refusal.TheVariants.{Lists}
 use Rattle.rules.specs.Answers.{Answer, or_else, unless}
 use Rattle.rules.specs.Basin.{Basin}
 use Rattle.rules.specs.Tally.{fresh_carried}
 use Rattle.records.specs.Records.{reservoir_record, basin_of}
 use Rattle.boards.specs.Board.{board_of, board_fits}
-use Rattle.answers.specs.declared.Answer.{Answer as Given}
-use Rattle.answers.specs.Answers.{accepted, file_refusal, answer_of}
+use Rattle.answers.specs.Answers.{accepted, file_refusal}
 
 -- the file, and the length of the board
 unfoldable pub fresh_refusal : List ℕ → List ℕ → Option Answer
@@ -29,9 +28,9 @@ fresh_settled (Some a) f board = record { answer = a; board = board }
 unfoldable pub fresh_of : List ℕ → List ℕ → Fresh
 fresh_of f board = fresh_settled (fresh_refusal f board) f board
 
--- the same as the call gives it
-abbrev pub fresh_told : Given → List ℕ → Fresh
-fresh_told a board = record { answer = answer_of a; board = board }
+-- the same as the call gives it: what it answers, and the board that it leaves
+abbrev pub fresh_told : Answer → List ℕ → Fresh
+fresh_told a board = record { answer = a; board = board }
 
 -- ---- on the way: from bd to bd' the first k reservoirs hold their starting storages
 

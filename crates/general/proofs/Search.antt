@@ -1,5 +1,5 @@
 -- Laws of membership and of the first number that passes a test. Assumes nothing.
-use Rattle.std.specs.Prelude.{Option, None, Some, is_some}
+use Rattle.std.specs.Prelude.{Option, None, Some, is_some, MatchOption}
 use mathlib.Core.Path.{◌≡◌, refl, sym, ap, ◌∙◌}
 use mathlib.Core.Logic.{◌≢◌}
 use mathlib.Core.Bool.{Bool, true, false, cond, not, ◌||◌}
@@ -75,6 +75,24 @@ module _ (t : ℕ → Bool) where
       go true f ih = let g : Some i ≡ None = sym (first-here n i f) ∙ e in absurd (let z : ◌≡◌ {A = ℕ} 0 1 = cc in omega arith)
       go false f ih = by_eqb i j (λ _. t j ≡ false) (λ g. ap t (sym g) ∙ f) (λ g. ih (sym (first-later n i f) ∙ e) j (omega arith) (omega arith))
 
+  -- what a search turns up is the first: it passes, and none before it does
+  first-found : (n i : ℕ) (r : Option ℕ)
+      → MatchOption r ((k : ℕ) → i ≤ k → k < i + n → t k ≡ false) (λ q. (i ≤ q) × (q < i + n) × (t q ≡ true) × ((k : ℕ) → i ≤ k → k < q → t k ≡ false))
+      → r ≡ first_at n i t
+  first-found zero i None h = sym (first-over i)
+  first-found zero i (Some q) h = absurd (omega arith)
+  first-found (suc n) i None h = first-found n (suc i) None (λ k l u. h k (omega arith) (omega arith)) ∙ sym (first-later n i (h i (omega arith) (omega arith)))
+  first-found (suc n) i (Some q) h = by_eqb i q (λ _. Some q ≡ first_at (suc n) i t)
+      (λ g. sym (first-here n i (ap t g ∙ h.2) ∙ ap Some g))
+      (λ g. first-found n (suc i) (Some q) (omega arith, omega arith, h.2, λ k l u. h.3 k (omega arith) u) ∙ sym (first-later n i (h.3 i (omega arith) (omega arith))))
+
+  -- the same from 0 on
+  pub found-below : (n : ℕ) (r : Option ℕ)
+      → MatchOption r ((k : ℕ) → 0 ≤ k → k < n → t k ≡ false) (λ q. (0 ≤ q) × (q < n) × (t q ≡ true) × ((k : ℕ) → 0 ≤ k → k < q → t k ≡ false))
+      → r ≡ first_at n 0 t
+  found-below n None h = first-found n 0 None (λ k l u. h k l (omega arith))
+  found-below n (Some q) h = first-found n 0 (Some q) (h.0, omega arith, h.2, h.3)
+
 not-false-of : {b : Bool} → not b ≡ false → b ≡ true
 not-false-of {b = true} e = refl
 not-false-of {b = false} e = absurd-bool refl e
@@ -83,6 +101,14 @@ not-false-of {b = false} e = absurd-bool refl e
 pub no-fault : (n : ℕ) (ok : ℕ → Bool) → first_fault n ok ≡ None → (j : ℕ) → j < n → ok j ≡ true
 unfolding first_fault
 no-fault n ok e j h = not-false-of (first-none (λ i. not (ok i)) n 0 e j (omega arith) (omega arith))
+
+-- what a search for the first at fault turns up
+pub fault-found : (n : ℕ) (ok : ℕ → Bool) (r : Option ℕ)
+    → MatchOption r ((k : ℕ) → 0 ≤ k → k < n → ok k ≡ true) (λ q. (0 ≤ q) × (q < n) × (ok q ≡ false) × ((k : ℕ) → 0 ≤ k → k < q → ok k ≡ true))
+    → r ≡ first_fault n ok
+unfolding first_fault
+fault-found n ok None h = found-below (λ i. not (ok i)) n None (λ k l u. ap not (h k l u))
+fault-found n ok (Some q) h = found-below (λ i. not (ok i)) n (Some q) (h.0, h.1, ap not h.2, λ k l u. ap not (h.3 k l u))
 
 pub some_of : {A : Type 0} (o : Option A) → is_some o ≡ true → (q : A) × (o ≡ Some q)
 some_of None e = absurd-bool e refl

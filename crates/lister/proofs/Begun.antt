@@ -1,5 +1,5 @@
 -- A listing is opened: the header, and the file's refusal or the fresh board. Assumes nothing.
-use Rattle.std.specs.Prelude.{Option, None, Some}
+use Rattle.std.specs.Prelude.{Option, None, Some, Ok}
 use Rattle.places.specs.Board.{board_length}
 use Rattle.places.specs.Report.{most_report}
 use Rattle.rules.specs.Tally.{report_length}
@@ -11,14 +11,14 @@ use native.Mathlib.Omega.{arith}
 use lib.ListN.{length, length-append}
 use Rattle.general.proofs.Tests.{absurd-bool}
 use Rattle.rules.specs.Answers.{Answer, or_else, unless}
-use Rattle.rules.specs.declared.Verdict.TheVariants.{Accepted}
 use Rattle.records.specs.Records.{basin_of}
 use Rattle.filecheck.specs.Check.{check_of}
 use Rattle.filecheck.proofs.Accepted.{accepted-facts}
 use Rattle.boards.specs.Board.{possible}
 use Rattle.answers.specs.Answers.{file_refusal, settled}
 use Rattle.fresh.specs.Fresh.{fresh_refusal, fresh_board, Fresh, fresh_settled, fresh_of}
-use Rattle.answers.proofs.Answers.{accepted-of, no-refusal, settled-some}
+use Rattle.answers.proofs.Answers.{file-accepted}
+use Rattle.answers.proofs.Numbered.{clear_none, settled-some, file-numbered}
 use Rattle.fresh.proofs.Start.{fresh-can}
 use Rattle.listing.specs.Listing.{refusal_line, header}
 use Rattle.lines.specs.Texts.{Text}
@@ -74,20 +74,20 @@ module _ (f bd bd' : List ℕ) (size : length bd ≡ board_length) (a : Answer) 
     pub accepted-open : a.number ≡ 0 → l.more ≡ true → l.text ≡ u → Opened f bd report out l
     unfolding fresh_settled opening begin
     accepted-open n more e =
-        let v : file_refusal f ≡ None = no-refusal f (accepted-of f a answer-is n) in
+        let v : file_refusal f ≡ None = clear_none (file_refusal f) (file-numbered f) (ap (λ (x : Answer). x.number) (sym answer-is) ∙ n) in
         let made : bd' ≡ fresh_board (basin_of f) = ap (λ (x : Fresh). x.board) (by-file ∙ ap (λ (x : Option Answer). fresh_settled x f bd) v) in
         opened {most = 32} (record { text = header; standing = begin (basin_of f); more = true }) (omega arith) (rw e head)
         (λ z. record { text = header; standing = record { months = months z; board = (board ∙ made) z }; more = more z }) (rw v)
 
 -- a listing that was opened and goes on is that of an accepted file, from the fresh board
-pub opened-on : {f bd report out : List ℕ} {l : Listing} → Opened f bd report out l → l.more ≡ true → (check_of f ≡ Accepted) × (possible (basin_of f) l.board.now ≡ true) × (l.months ≡ 0)
+pub opened-on : {f bd report out : List ℕ} {l : Listing} → Opened f bd report out l → l.more ≡ true → (check_of f ≡ Ok tt) × (possible (basin_of f) l.board.now ≡ true) × (l.months ≡ 0)
 unfolding opening begin settled
 opened-on {f} {bd} {l} w more = go (file_refusal f) refl w.equation
   where
     go : (v : Option Answer) → file_refusal f ≡ v → record { text = l.text.bytes; standing = standing l; more = l.more } ≡ opening v (basin_of f) bd
-        → (check_of f ≡ Accepted) × (possible (basin_of f) l.board.now ≡ true) × (l.months ≡ 0)
+        → (check_of f ≡ Ok tt) × (possible (basin_of f) l.board.now ≡ true) × (l.months ≡ 0)
     go None e q =
-        let acc : check_of f ≡ Accepted = accepted-of f (record { number = 0; place = 0 }) (ap settled (sym e)) refl in
+        let acc : check_of f ≡ Ok tt = file-accepted f e in
         (acc, ap (λ (x : Step). possible (basin_of f) x.standing.board) q ∙ fresh-can (basin_of f) (accepted-facts f acc), ap (λ (x : Step). x.standing.months) q)
     go (Some a) e q = absurd-bool more (ap (λ (x : Step). x.more) q)
 

@@ -1,5 +1,5 @@
 -- A whole sheet of an accepted file: what its month is lent, and what its step tells. Assumes nothing.
-use Rattle.rules.specs.declared.Verdict.TheVariants.{Lists}
+use Rattle.rules.specs.declared.Refusal.TheVariants.{Lists}
 use mathlib.Core.Bool.{true, false}
 use mathlib.Core.List.{List, [], append-nil}
 use mathlib.Core.Path.{◌≡◌, refl, sym, ap, ◌∙◌, subst}
@@ -153,7 +153,7 @@ module _ (part : List ℕ) (l : Listing) (can : CanStep l) where
     kept = record { file = refl; same_board = refl; same_report = refl; board = refl; report = refl; text = refl };
   }
 
-  pub part-short : (n : ℕ) → n ≡ rows (basin_of l.file.now) → (length part ≡ 0 → ⊥) → (length part ≡ 4 * n → ⊥) → (l' : Listing) (a : Answer) → a ≡ told Lists → Refused a l l' → Stepped part l l'
-  part-short n e z other l' a ea w =
+  pub part-short : (n : ℕ) → n ≡ rows (basin_of l.file.now) → (length part ≡ 0 → ⊥) → (length part ≡ 4 * n → ⊥) → (l' : Listing) → Refused (told Lists) l l' → Stepped part l l'
+  part-short n e z other l' w =
       refused-as (told Lists) can.in_order (short-meets (basin_of l.file.now) (standing l) part (omega (arith, z)) (λ v. other (omega (arith, v, e))))
-      refl refl refl (kept_none l) (subst (λ (x : Answer). Refused x l l') ea w)
+      refl refl refl (kept_none l) w

@@ -1,7 +1,7 @@
 -- A step of a listing tells what the rules define. Assumes nothing.
 use Rattle.std.specs.Prelude.{Option, None, Some}
 use Rattle.general.proofs.Sums.{sum_to-same}
-use Rattle.rules.specs.declared.Verdict.TheVariants.{Lists}
+use Rattle.rules.specs.declared.Refusal.TheVariants.{Lists}
 use mathlib.Core.Bool.{true, false}
 use mathlib.Core.List.{List, [], ◌∷◌, ◌++◌, map}
 use mathlib.Core.Path.{◌≡◌, refl, sym, ap, ◌∙◌}

@@ -1,9 +1,8 @@
 -- What the steps of a listing ask for and promise.
-use Rattle.std.specs.Prelude.{Bool, true, false, List, ◌++◌, ◌≡◌, ℕ, ◌+◌, ◌≤◌, ◌<◌, length, drop, Option, None, Some}
+use Rattle.std.specs.Prelude.{Bool, true, false, List, ◌++◌, ◌≡◌, ℕ, ◌+◌, ◌≤◌, ◌<◌, length, drop, Option, None, Some, Ok}
 use Rattle.rules.specs.Basin.{Basin}
 use Rattle.rules.specs.Answers.{Answer}
 use Rattle.rules.specs.Tally.{report_length}
-use Rattle.rules.specs.declared.Verdict.TheVariants.{Accepted}
 use Rattle.filecheck.specs.Check.{check_of}
 use Rattle.records.specs.Records.{basin_of}
 use Rattle.places.specs.Board.{board_length}
@@ -48,7 +47,7 @@ pub record Opened (f board report out : List ℕ) (l : Listing) : Type 0 where
 
 -- what is in order from step to step of a listing: an accepted file, a possible board, room for the report
 pub record InOrder (l : Listing) : Type 0 where
-  pub accepted : check_of l.file.now ≡ Accepted
+  pub accepted : check_of l.file.now ≡ Ok tt
   pub size : length l.board.now ≡ board_length
   pub can : possible (basin_of l.file.now) l.board.now ≡ true
   pub told : report_length (basin_of l.file.now) ≤ length l.report.now

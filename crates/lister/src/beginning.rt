@@ -23,11 +23,13 @@ impl<'a, 't> Listing<'a, 't> {
     {
         let mut text = Text::over(out);
         put_header(&mut text);
-        let answer = fresh(file, board);
-        let more = answer.number == 0;
-        if !more {
-            put_refusal(&mut text, answer);
-        }
+        let more = match fresh(file, board) {
+            Ok(()) => true,
+            Err(refusal) => {
+                put_refusal(&mut text, refusal);
+                false
+            }
+        };
         Listing {
             file,
             board,

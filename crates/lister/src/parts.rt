@@ -1,28 +1,27 @@
 // One step of a listing: what the next part of the months file adds.
 ghost use Rattle.std.specs.Prelude.{◌≡◌, ◌≤◌, length};
+ghost use Rattle.rules.specs.Answers.{told};
 ghost use Rattle.rules.specs.Basin.{rows};
 ghost use Rattle.records.specs.Records.{basin_of};
-ghost use Rattle.answers.specs.Answers.{answer_of};
 ghost use Rattle.listing.specs.Run.{sheet_bytes};
 ghost use Rattle.lines.specs.Putting.{most_text};
 ghost use Rattle.lister.specs.Lister.{CanStep, Stepped, Refused};
 
 use crate::Listing;
-use answers::{Answer, tell};
 use lines::frame::put_refusal;
 use lines::month_lines::put_month;
 use month::run::run_sheet;
 use records::bodies::Bodies;
-use rules::Verdict;
+use rules::Refusal;
 use sheets::decode;
 
 impl<'a, 't> Listing<'a, 't> {
     // A refusal is the last line of a listing.
-    pub fn refuse(&mut self, answer: Answer)
+    pub fn refuse(&mut self, refusal: Refusal)
         requires { most_text ≤ self.old.text.room }
-        ensures { Refused (answer_of answer) self.old self.new }
+        ensures { Refused (told refusal) self.old self.new }
     {
-        put_refusal(&mut self.text, answer);
+        put_refusal(&mut self.text, refusal);
         self.more = false;
     }
 
@@ -35,14 +34,14 @@ impl<'a, 't> Listing<'a, 't> {
         let board = &mut *self.board;
         let report = &mut *self.report;
         decode(sheet, runoff);
-        let answer = run_sheet(&bodies, runoff, board, report);
-        if answer.number != 0 {
-            self.refuse(answer);
-            return;
+        match run_sheet(&bodies, runoff, board, report) {
+            Ok(_) => {
+                put_month(&mut self.text, self.months, &bodies, board, report);
+                self.months += 1;
+                self.more = true;
+            }
+            Err(refusal) => self.refuse(refusal),
         }
-        put_month(&mut self.text, self.months, &bodies, board, report);
-        self.months += 1;
-        self.more = true;
     }
 
     // A part of the months file: nothing, where the file is at its end; a sheet; or too little for one, which is refusal 6.
@@ -57,7 +56,7 @@ impl<'a, 't> Listing<'a, 't> {
         }
         let n = Bodies::of(self.file).rows();
         if left != 4 * n {
-            self.refuse(tell(Verdict::Lists));
+            self.refuse(Refusal::Lists);
             return;
         }
         let mut runoff = [0u32; 64];

@@ -20,7 +20,7 @@ use Rattle.places.specs.Board.{board_by}
 use Rattle.places.specs.Board as board
 use Rattle.places.specs.Report as report
 use Rattle.boards.specs.Report.{grant_number, level_number, report_parts, report_of}
-use Rattle.answers.specs.Answers.{file_refusal, verdict_refusal}
+use Rattle.answers.specs.Answers.{file_refusal}
 use Rattle.fresh.specs.Fresh.{fresh_board}
 use Rattle.month.specs.Month.{run_of, due_after, board_after}
 use Rattle.rules.specs.October.{october}
@@ -58,7 +58,7 @@ unfolding header decimal_in decimal_text refusal_line first_at tab over_limit ov
 over-so = refl
 
 no-basin-so : (months : List ℕ) → listing_of [] months ≡ head_line ++ refused_line 1 0
-unfolding listing_of after_header file_refusal verdict_refusal check_of layout_ok header decimal_in decimal_text refusal_line ◌and◌
+unfolding listing_of after_header file_refusal check_of layout_ok header decimal_in decimal_text refusal_line ◌and◌
 no-basin-so months = refl
 
 pub listed : Listed

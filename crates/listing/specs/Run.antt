@@ -1,7 +1,7 @@
 -- The listing of two files (01, "One October, whole"): the bytes of a basin file and of a file of runoff sheets.
 use Rattle.std.specs.Prelude.{Bool, true, false, List, [], ◌∷◌, ◌++◌, ℕ, zero, suc, eqb, length, take, drop, Option, None, Some}
 use Rattle.rules.specs.Basin.{Basin, rows}
-use Rattle.rules.specs.declared.Verdict.TheVariants.{Lists}
+use Rattle.rules.specs.declared.Refusal.TheVariants.{Lists}
 use Rattle.rules.specs.Answers.{Answer, or_else, unless}
 use Rattle.rules.specs.Tally.{over_limit, over_answer}
 use Rattle.sheets.specs.Sheets.{sheet_size, sheet_of}

@@ -1,9 +1,8 @@
 -- The steps of a program that lists: what each promises, and that their texts, one after another, are the listing, however the months file is
 -- cut into blocks when it is read. proofs/Steps and proofs/Blocks prove it.
-use Rattle.std.specs.Prelude.{Bool, true, false, List, [], ◌∷◌, ◌++◌, ◌≡◌, ℕ, ◌≤◌, length, take, drop, Some}
+use Rattle.std.specs.Prelude.{Bool, true, false, List, [], ◌∷◌, ◌++◌, ◌≡◌, ℕ, ◌≤◌, length, take, drop, Some, Ok}
 use Rattle.rules.specs.Basin.{Basin}
 use Rattle.rules.specs.Answers.{Answer}
-use Rattle.rules.specs.declared.Verdict.TheVariants.{Accepted}
 use Rattle.filecheck.specs.Check.{check_of}
 use Rattle.records.specs.Records.{basin_of}
 use Rattle.answers.specs.Answers.{file_refusal}
@@ -80,12 +79,12 @@ start f months = record { standing = begin (basin_of f); left = months; more = t
 
 -- Of an accepted file: the header and the texts of the steps, from the fresh board to where the run ends, are the listing.
 abbrev pub StepsList : Type 0
-StepsList = (f months : List ℕ) → check_of f ≡ Accepted → (os : List Step) (to : Place) → Walk (basin_of f) true (start f months) os to → to.more ≡ false
+StepsList = (f months : List ℕ) → check_of f ≡ Ok tt → (os : List Step) (to : Place) → Walk (basin_of f) true (start f months) os to → to.more ≡ false
     → header ++ texts_of os ≡ listing_of f months
 
 -- The same of the calls of a program that reads in blocks, whatever their lengths.
 abbrev pub CallsList : Type 0
-CallsList = (f months : List ℕ) → check_of f ≡ Accepted → (cs : List (Call × List ℕ)) (to : Place) → Calls (basin_of f) (start f months) cs to → to.more ≡ false
+CallsList = (f months : List ℕ) → check_of f ≡ Ok tt → (cs : List (Call × List ℕ)) (to : Place) → Calls (basin_of f) (start f months) cs to → to.more ≡ false
     → header ++ texts_of (steps_of cs) ≡ listing_of f months
 
 -- Of a file that is turned down: the header and the refusal are.

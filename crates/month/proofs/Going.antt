@@ -1,5 +1,5 @@
 -- Month after month of an accepted file: what one leaves is what the next asks for. Assumes nothing.
-use Rattle.std.specs.Prelude.{Option, None, Some}
+use Rattle.std.specs.Prelude.{Option, None, Some, Ok}
 use mathlib.Core.Path.{◌≡◌, sym, ap, ◌∙◌}
 use mathlib.Core.Bool.{true}
 use mathlib.Core.List.{List}
@@ -12,41 +12,33 @@ use Rattle.general.proofs.Tables.{tab-at}
 use Rattle.rules.specs.Accepted.{Accepted, GoodReservoir}
 use Rattle.rules.specs.Basin.{Basin, Reservoir, no_reservoir, rows, reservoir_at}
 use Rattle.rules.specs.Month.{area_by, area_at, evaporation, evaporations, month}
-use Rattle.rules.specs.Answers.{Answer}
+use Rattle.rules.specs.declared.Refusal.{Refusal}
+use Rattle.rules.specs.Answers.{Answer, told}
 use Rattle.rules.proofs.Areas.{area-within}
 use Rattle.rules.specs.Tally.{over_limit, over_answer}
 use Rattle.boards.specs.Board.{possible}
-use Rattle.answers.specs.Answers.{settled}
+use Rattle.answers.specs.Answers.{count_answer}
 use Rattle.places.specs.Report.{evaporation_place}
-use Rattle.month.specs.Month.{run_of, Outcome, month_settled}
+use Rattle.month.specs.Month.{run_of, Outcome, month_settled, outcome_of}
 use Rattle.month.specs.Run.{CanRun, Ran, CanRunSheet, SheetRan}
-use Rattle.answers.proofs.Answers.{settled-some}
 use Rattle.month.proofs.After.{after-possible}
 use Rattle.boards.proofs.Report.{evaporation-place}
-use Rattle.month.proofs.Settling.{clear-over, within-limit}
+use Rattle.month.proofs.Settling.{over-none, within-limit}
 
 -- ---- the contract, case by case
 
 module _ (b : Basin) (runoff bd rp : List ℕ) (c : CanRunSheet b runoff bd rp) where
-  pub stays : (a : Answer) → a ≡ settled (over_answer (over_limit runoff)) → (a.number ≡ 0 → ⊥) → SheetRan b runoff bd rp (record { answer = a; board = bd; report = rp })
+  pub stays : (r : Refusal) → Some (told r) ≡ over_answer (over_limit runoff) → SheetRan b runoff bd rp (outcome_of (told r) bd rp)
   unfolding month_settled
-  stays a e n = sym (rw (settled-some (over_answer (over_limit runoff)) a e n))
+  stays r e = rw (← e)
 
-  module _ (a : Answer) (e : a ≡ settled (over_answer (over_limit runoff))) (n : a.number ≡ 0) where
-    none_over : over_limit runoff ≡ None
-    none_over = clear-over (over_limit runoff) (ap (λ (x : Answer). x.number) (sym e) ∙ n)
-
+  module _ (e : None ≡ over_answer (over_limit runoff)) where
     pub may-run : CanRun b runoff bd rp
-    may-run = record { accepted = c.accepted; sheet = c.sheet; small = within-limit runoff none_over; size = c.size; can = c.can; room = c.room }
+    may-run = record { accepted = c.accepted; sheet = c.sheet; small = within-limit runoff (over-none (over_limit runoff) (sym e)); size = c.size; can = c.can; room = c.room }
 
-    clear : over_answer (over_limit runoff) ≡ None
-    unfolding over_answer
-    clear = rw none_over
-
-    module _ (bd' rp' : List ℕ) (k : ℕ) (r : Ran b runoff bd rp bd' rp' k) where
-      pub goes : SheetRan b runoff bd rp (record { answer = record { number = 0; place = k }; board = bd'; report = rp' })
-      unfolding month_settled
-      goes = rw clear (λ z. record { answer = record { number = 0; place = r.shorts z }; board = r.board z; report = r.report z })
+    pub goes : (bd' rp' : List ℕ) (k : ℕ) → Ran b runoff bd rp bd' rp' k → SheetRan b runoff bd rp (outcome_of (count_answer (Ok k)) bd' rp')
+    unfolding month_settled
+    goes bd' rp' k r = rw (← e) (λ z. outcome_of (count_answer (Ok (r.shorts z))) (r.board z) (r.report z))
 
 -- ---- what stands on the board after it
 

@@ -11,8 +11,7 @@ use Rattle.rules.specs.Tally.{Call, lists_fit, over_limit, over_answer}
 use Rattle.records.specs.Records.{basin_of}
 use Rattle.boards.specs.Board.{carried_of, board_of, board_fits}
 use Rattle.boards.specs.Report.{report_of}
-use Rattle.answers.specs.declared.Answer.{Answer as Given}
-use Rattle.answers.specs.Answers.{lent_refusal, answer_of}
+use Rattle.answers.specs.Answers.{lent_refusal}
 
 -- ---- what is turned down: what is lent, then runoff over its limit
 
@@ -63,6 +62,6 @@ month_of f runoff board report = month_settled (month_refusal f runoff board rep
 abbrev pub MonthMeets : List ℕ → List ℕ → List ℕ → List ℕ → Outcome → Type 0
 MonthMeets f runoff board report outcome = outcome ≡ month_of f runoff board report
 
--- the outcome as the call gives it
-abbrev pub outcome_of : Given → List ℕ → List ℕ → Outcome
-outcome_of a board report = record { answer = answer_of a; board = board; report = report }
+-- the outcome as the call gives it: what it answers, and what it leaves
+abbrev pub outcome_of : Answer → List ℕ → List ℕ → Outcome
+outcome_of a board report = record { answer = a; board = board; report = report }

@@ -4,15 +4,15 @@ ghost use Rattle.rules.specs.Tally.{over_limit, over_answer};
 ghost use Rattle.records.specs.Records.{basin_of};
 ghost use Rattle.records.specs.Bodies.{basin_in};
 ghost use Rattle.boards.specs.Bodies.{Counted};
-ghost use Rattle.answers.specs.Answers.{lent_refusal, answer_of, settled};
+ghost use Rattle.answers.specs.Answers.{refusal_of, lent_refusal};
 ghost use Rattle.month.specs.Month.{all_fit};
 
-use answers::{Answer, judge_file, tell};
 use boards::possible::is_possible;
+use filecheck::check::check;
 use places::board::BOARD_LENGTH;
 use places::report::report_end;
 use records::bodies::Bodies;
-use rules::Verdict;
+use rules::Refusal;
 
 // The most that may run off at a row in a month.
 const MOST_RUNOFF: u32 = 1000000000;
@@ -28,32 +28,26 @@ fn all_fit(bodies: &Bodies<'_>, runoff: &[u32], board: &[u64], report: &[u64]) -
 }
 
 // The first row whose runoff is over the limit.
-pub fn judge_runoff(runoff: &[u32]) -> Answer
-    ensures { answer_of result ≡ settled (over_answer (over_limit runoff.now)) }
+pub fn judge_runoff(runoff: &[u32]) -> Result<(), Refusal>
+    ensures { refusal_of result ≡ over_answer (over_limit runoff.now) }
 {
-    let n = runoff.len();
-    for row in 0..n {
-        if runoff[row] > MOST_RUNOFF {
-            return tell(Verdict::Runoff(row));
-        }
+    match runoff.iter().position(|&flow| flow > MOST_RUNOFF) {
+        Some(row) => Err(Refusal::Runoff(row)),
+        None => Ok(()),
     }
-    tell(Verdict::Accepted)
 }
 
 // All that is asked of what is lent, but for the limit of the runoff.
-pub fn judge_lent(file: &[u8], runoff: &[u32], board: &[u64], report: &[u64]) -> Answer
-    ensures { answer_of result ≡ settled (lent_refusal file.now (all_fit (basin_of file.now) runoff.now board.now report.now) board.now) }
+pub fn judge_lent(file: &[u8], runoff: &[u32], board: &[u64], report: &[u64]) -> Result<(), Refusal>
+    ensures { refusal_of result ≡ lent_refusal file.now (all_fit (basin_of file.now) runoff.now board.now report.now) board.now }
 {
-    let on_file = judge_file(file);
-    if on_file.number != 0 {
-        return on_file;
-    }
+    check(file)?;
     let bodies = Bodies::of(file);
     if !all_fit(&bodies, runoff, board, report) {
-        return tell(Verdict::Lists);
+        return Err(Refusal::Lists);
     }
     if !is_possible(&bodies, board) {
-        return tell(Verdict::Board);
+        return Err(Refusal::Board);
     }
-    tell(Verdict::Accepted)
+    Ok(())
 }

@@ -1,10 +1,10 @@
 // One month of the bodies of an accepted file, on a possible board.
 ghost use Rattle.records.specs.Bodies.{basin_in};
+ghost use Rattle.answers.specs.Answers.{count_answer};
 ghost use Rattle.month.specs.Month.{outcome_of};
 ghost use Rattle.month.specs.Run.{CanRun, Ran, CanRunSheet, SheetRan};
 
 use crate::refusals::judge_runoff;
-use answers::Answer;
 use closing::{end, in_year};
 use opening::begin;
 use places::board::MONTH;
@@ -12,6 +12,7 @@ use records::bodies::Bodies;
 use records::network::rows_below;
 use records::patterns::decode_patterns;
 use river::River;
+use rules::Refusal;
 use turns::Setting;
 use turns::lines::serve_all;
 
@@ -50,17 +51,10 @@ pub fn run_sheet(
     runoff: &[u32],
     board: &mut [u64],
     report: &mut [u64],
-) -> Answer
+) -> Result<usize, Refusal>
     requires { CanRunSheet (basin_in bodies.now) runoff.now board.old report.old }
-    ensures { SheetRan (basin_in bodies.now) runoff.now board.old report.old (outcome_of result board.new report.new) }
+    ensures { SheetRan (basin_in bodies.now) runoff.now board.old report.old (outcome_of (count_answer result) board.new report.new) }
 {
-    let answer = judge_runoff(runoff);
-    if answer.number != 0 {
-        return answer;
-    }
-    let shorts = run(bodies, runoff, board, report);
-    Answer {
-        number: 0,
-        place: shorts as u64,
-    }
+    judge_runoff(runoff)?;
+    Ok(run(bodies, runoff, board, report))
 }

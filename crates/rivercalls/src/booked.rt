@@ -6,12 +6,17 @@ use printing::saying::{say, say_stock};
 use std::io;
 use years::run::run_year;
 
+// Whether the book lists a year.
+fn say_listed<R: Print>(rt: &R, what: &str, file: &[u8], book: &[u8], year: u32) -> io::Result<()> {
+    say(rt, what, find_year(file, book, year).map(|_| ()))
+}
+
 // Refusals 1, 9 and 10.
 fn look_up<R: Print>(rt: &R, file: &[u8], book: &[u8]) -> io::Result<()> {
-    say(rt, "year, no file:", find_year(&file[..0], book, 1889))?;
-    say(rt, "year, no book:", find_year(file, &book[..0], 1889))?;
-    say(rt, "year 1888:", find_year(file, book, 1888))?;
-    say(rt, "year 1889:", find_year(file, book, 1889))
+    say_listed(rt, "year, no file:", &file[..0], book, 1889)?;
+    say_listed(rt, "year, no book:", file, &book[..0], 1889)?;
+    say_listed(rt, "year 1888:", file, book, 1888)?;
+    say_listed(rt, "year 1889:", file, book, 1889)
 }
 
 // Twelve reports have 336 numbers. Refusals 9 and 10 come before 6, and 6 before 8.

@@ -34,7 +34,7 @@ fn refused<R: Print>(rt: &R, file: &[u8]) -> io::Result<()> {
 fn wrong_words<R: Print>(rt: &R, file: &[u8]) -> io::Result<()> {
     let mut board = [0u64; BOARD_LENGTH];
     let mut report = [0u64; 28];
-    fresh(file, &mut board);
+    let _ = fresh(file, &mut board);
     board[WORDS] = 4096;
     say_months(
         rt,
@@ -76,7 +76,7 @@ pub fn call<R: Print>(rt: &R, file: &[u8], book: &[u8]) -> io::Result<()> {
     let mut reports = [0u64; 336];
     refused(rt, file)?;
     wrong_words(rt, file)?;
-    fresh(file, &mut board);
+    let _ = fresh(file, &mut board);
     say(
         rt,
         "October of 1889:",

@@ -8,12 +8,18 @@ pub fn say_one<R: Print>(rt: &R, what: &str, n: u64) -> io::Result<()> {
 }
 
 // What was asked, and the short months.
-pub fn say_months<R: Print>(rt: &R, what: &str, told: Months) -> io::Result<()> {
-    println!(rt; "{what} {} {} {}", told.number, told.place, told.months)
+pub fn say_months<R: Print, M: Into<Months>>(rt: &R, what: &str, told: M) -> io::Result<()> {
+    let Months {
+        number,
+        place,
+        months,
+    } = told.into();
+    println!(rt; "{what} {number} {place} {months}")
 }
 
 // The short months of a right, by its place in the list.
-pub fn say_right<R: Print>(rt: &R, right: usize, told: Months) -> io::Result<()> {
+pub fn say_right<R: Print, M: Into<Months>>(rt: &R, right: usize, told: M) -> io::Result<()> {
+    let told: Months = told.into();
     print!(rt; "short months of right {right}")?;
     say_months(rt, ":", told)
 }

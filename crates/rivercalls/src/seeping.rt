@@ -22,10 +22,10 @@ fn set_percents(file: &mut [u8], percents: [u8; 3]) {
 fn run<R: Print>(rt: &R, file: &[u8], what: &str) -> io::Result<()> {
     let mut board = [0u64; BOARD_LENGTH];
     let mut report = [0u64; 28];
-    fresh(file, &mut board);
+    let _ = fresh(file, &mut board);
     let answer = month(file, &[2000, 700, 300], &mut board, &mut report);
     say(rt, what, answer)?;
-    if answer.number == 0 {
+    if answer.is_ok() {
         say_one(rt, "deep", report[deep_place(5, 3, 1)])?;
         say_stock(rt, file, &board)?;
     }

@@ -2,7 +2,8 @@
 // first record at fault. A file that cannot be read is said to be that and never judged; the reason goes to standard error.
 #![tactic(auto)]
 
-use answers::judge_file;
+use answers::Answer;
+use filecheck::check::check;
 use files::reasons::fail;
 use files::words::{WORD_ROOM, word, word_count};
 use files::{FILE_ROOM, read_file};
@@ -11,12 +12,14 @@ use std::rt::{Env, Files};
 
 // The functions that print fail where not all could be written. A path need not be text, so its bytes are written as they are.
 fn print_verdict<R: Print>(rt: &R, path: &[u8], file: &[u8]) -> io::Result<()> {
-    let answer = judge_file(file);
     rt.write_all(path)?;
-    if answer.number == 0 {
-        return println!(rt; " accepted");
+    match check(file) {
+        Ok(()) => println!(rt; " accepted"),
+        Err(refusal) => {
+            let Answer { number, place } = Answer::from(refusal);
+            println!(rt; " refused {number} {place}")
+        }
     }
-    println!(rt; " refused {} {}", answer.number, answer.place)
 }
 
 fn print_unread<R: Print>(rt: &R, path: &[u8]) -> io::Result<()> {

@@ -1,5 +1,4 @@
 // Months listed from whatever board: a board that was recalled may be any, so it is judged before a month is run on it.
-use answers::Answer;
 use lines::month_lines::MOST_TEXT;
 use lines::text::Text;
 use lister::Listing;
@@ -18,7 +17,7 @@ pub fn list_months<'t>(
     if out.len() < MOST_TEXT {
         return &out[..0];
     }
-    let sums = stock(file, board);
+    let stocked = stock(file, board);
     let mut report = [0u64; MOST_REPORT];
     let mut listing = Listing {
         file,
@@ -28,13 +27,11 @@ pub fn list_months<'t>(
         months: u64::from(first),
         more: true,
     };
-    if sums.number != 0 {
-        listing.refuse(Answer {
-            number: sums.number,
-            place: sums.place,
-        });
-    } else {
-        listing.list_block(sheets, false);
+    match stocked {
+        Ok(_) => {
+            listing.list_block(sheets, false);
+        }
+        Err(refusal) => listing.refuse(refusal),
     }
     listing.text.into_bytes()
 }

@@ -4,7 +4,7 @@ use mathlib.Core.Path.{◌≡◌, refl}
 use mathlib.Core.Bool.{Bool, true, false}
 use Prim.Native.Nat.{ℕ}
 use native.Mathlib.Omega.{arith}
-use Rattle.rules.specs.declared.Verdict.{Verdict}
+use Rattle.rules.specs.declared.Refusal.{Refusal}
 use Rattle.rules.specs.Answers.{Answer, or_else, unless}
 
 -- where nothing is turned down, neither the first nor what comes after is
@@ -22,18 +22,13 @@ pub or-none : (y : Option Answer) → or_else None y ≡ y
 unfolding or_else
 or-none y = refl
 
--- what is refused first stays refused, whatever comes after
-pub or_some : (x later : Option Answer) (a : Answer) → x ≡ Some a → or_else x later ≡ Some a
-unfolding or_else
-or_some x later a e = rw e
-
 -- what comes after is asked only where nothing was refused before
 pub or_same : (v x y : Option Answer) → (v ≡ None → x ≡ y) → or_else v x ≡ or_else v y
 unfolding or_else
 or_same None x y h = h refl
 or_same (Some a) x y h = refl
 
-pub unless-none : (t : Bool) (v : Verdict) → unless t v ≡ None → t ≡ true
+pub unless-none : (t : Bool) (r : Refusal) → unless t r ≡ None → t ≡ true
 unfolding unless
-unless-none true v e = refl
-unless-none false v e = absurd (let z : ◌≡◌ {A = ℕ} 0 1 = cc in omega arith)
+unless-none true r e = refl
+unless-none false r e = absurd (let z : ◌≡◌ {A = ℕ} 0 1 = cc in omega arith)

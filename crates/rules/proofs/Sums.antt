@@ -18,7 +18,7 @@ use Rattle.rules.specs.Path.{last_row}
 use Rattle.rules.specs.River.{flow_at}
 use Rattle.rules.specs.Month.{consumed_by, deep_of, MonthRun, month}
 use Rattle.rules.specs.Tally.{Call, lists_fit, over_limit, over_answer, refusal, Start, Tally, begun, arriving, next_run, accept, after_judged, after_call, after_calls}
-use Rattle.rules.specs.declared.Verdict.TheVariants.{Lists}
+use Rattle.rules.specs.declared.Refusal.TheVariants.{Lists}
 use Rattle.rules.specs.Answers.{Answer, unless}
 use Rattle.rules.proofs.Answers.{or-first, unless-none}
 use Rattle.rules.specs.Water.{total_runoff, total_outflow, total_consumption, total_evaporation, total_deep, in_transit, starting_storage, starting_dues, stored_in, drawn_from, total_stored, total_drawn, total_lost, storage_now, all_storage_now, MonthSound, WaterKept}

@@ -2,7 +2,7 @@
 use mathlib.Core.Path.{◌≡◌, refl, sym, ap, ◌∙◌, subst}
 use mathlib.Core.List.{List, [], ◌∷◌, ◌++◌, map}
 use lib.ListN.{drop}
-use Rattle.rules.specs.declared.Verdict.TheVariants.{Lists}
+use Rattle.rules.specs.declared.Refusal.TheVariants.{Lists}
 use Rattle.rules.specs.Answers.{or_else, unless}
 use Rattle.rules.specs.Basin.{Basin}
 use Rattle.rules.specs.Month.{Carried}

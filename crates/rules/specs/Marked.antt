@@ -8,7 +8,7 @@ use Rattle.rules.specs.River.{Level}
 use Rattle.rules.specs.Returns.{consumed_at, shares, deep_loss}
 use Rattle.rules.specs.Turn.{State, met, called_out, river_low, storage_out, Grant, demand}
 use Rattle.rules.specs.Month.{opening, grants_of, deep_of, area_at, MonthRun}
-use Rattle.rules.specs.declared.Verdict.TheVariants.{Year}
+use Rattle.rules.specs.declared.Refusal.TheVariants.{Year}
 use Rattle.rules.specs.Answers.{told}
 use Rattle.rules.specs.Tally.{Call, Start, Tally, fresh, begun, pending, next_run, after_calls, answers}
 use Rattle.rules.specs.Years.{YearRun, yearly, after_entry, entry_answer}

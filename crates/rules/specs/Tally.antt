@@ -6,7 +6,7 @@ use Rattle.general.specs.Sums.{sum_to, only}
 use Rattle.general.specs.Tables.{tab}
 use Rattle.general.specs.Tests.{◌and◌, first_at}
 use Rattle.places.specs.Report.{report_end}
-use Rattle.rules.specs.declared.Verdict.TheVariants.{Lists, Runoff}
+use Rattle.rules.specs.declared.Refusal.TheVariants.{Lists, Runoff}
 use Rattle.rules.specs.Answers.{Answer, told, or_else, unless}
 use Rattle.rules.specs.Basin.{Reservoir, Basin, rows}
 use Rattle.rules.specs.Month.{Carried, nobody_short, returns_at, MonthRun, month, short_count}

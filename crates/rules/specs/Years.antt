@@ -1,7 +1,7 @@
 -- Year runs in the tally (02, No. 4): the month calls of a water year, which happen whole or not at all; and lists in which month calls and year runs stand
 -- in any mix. As of a month call, a run's board is never the cause of its refusal here: the tally has no board.
 use Rattle.std.specs.Prelude.{Bool, List, [], ◌∷◌, ◌++◌, map, ℕ, ◌*◌, leb, length, drop, Option, None, Some}
-use Rattle.rules.specs.declared.Verdict.TheVariants.{Lists}
+use Rattle.rules.specs.declared.Refusal.TheVariants.{Lists}
 use Rattle.rules.specs.Answers.{Answer, or_else, unless}
 use Rattle.rules.specs.Basin.{Basin}
 use Rattle.rules.specs.Tally.{Call, report_length, refusal, Tally, after_calls, answer_of}

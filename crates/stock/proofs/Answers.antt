@@ -1,63 +1,68 @@
 -- Each answer of stock, case by case. Assumes nothing.
-use Rattle.std.specs.Prelude.{None}
-use mathlib.Core.Path.{◌≡◌}
+use Rattle.std.specs.Prelude.{Option, None, Some, Ok, Err}
+use mathlib.Core.Path.{◌≡◌, refl, sym, ap}
+use mathlib.Core.Logic.{◌≢◌}
 use mathlib.Core.Bool.{true, false}
 use mathlib.Core.List.{List}
 use Prim.Native.Nat.{ℕ}
 use lib.ListN.{length}
 use Rattle.general.proofs.Tests.{eqb_same, eqb-other, eq_of}
 use Rattle.places.specs.Board.{board_length}
-use Rattle.rules.specs.declared.Verdict.TheVariants.{Accepted, Lists, Board}
+use Rattle.rules.specs.declared.Refusal.{Refusal}
+use Rattle.rules.specs.declared.Refusal.TheVariants.{Lists, Board}
 use Rattle.rules.specs.Answers.{Answer, told}
 use Rattle.records.specs.Records.{basin_of}
 use Rattle.filecheck.specs.Check.{check_of}
 use Rattle.boards.specs.Board.{possible, board_fits, storage_sum, due_sum}
-use Rattle.answers.specs.Answers.{accepted, file_refusal, settled}
-use Rattle.answers.proofs.Answers.{settled-some, lent-file, lent-unfit, lent-impossible, lent-good, lent_none, lent-clear}
-use Rattle.stock.specs.Stock.{stock_refusal, stock_settled, stock_of}
+use Rattle.answers.proofs.Numbered.{Numbered, lent-numbered}
+use Rattle.answers.proofs.Answers.{lent-file, lent-unfit, lent-impossible, lent_none, lent-clear}
+use Rattle.stock.specs.declared.Totals.{Totals}
+use Rattle.stock.specs.Stock.{Stock, stock_refusal, stock_settled, stock_of, totals_told}
 
 module _ (f board : List ℕ) where
-  pub stock-file : (a : Answer) → a ≡ settled (file_refusal f) → (a.number ≡ 0 → ⊥) → a ≡ settled (stock_refusal f board)
-  unfolding stock_refusal
-  stock-file a e n = lent-file f (board_fits board) board a e n
+  fits : length board ≡ board_length → board_fits board ≡ true
+  fits size = rw size (eqb_same board_length)
 
-  module _ (acc : check_of f ≡ Accepted) where
-    pub stock-unfit : (length board ≡ board_length → ⊥) → told Lists ≡ settled (stock_refusal f board)
+  pub stock-file : (r : Refusal) → Err r ≡ check_of f → Some (told r) ≡ stock_refusal f board
+  unfolding stock_refusal
+  stock-file r e = lent-file f (board_fits board) board r e
+
+  module _ (acc : check_of f ≡ Ok tt) where
+    pub stock-unfit : length board ≢ board_length → Some (told Lists) ≡ stock_refusal f board
     unfolding stock_refusal
     stock-unfit n = lent-unfit f (board_fits board) board acc (eqb-other (length board) board_length n)
 
-    module _ (size : length board ≡ board_length) where
-      fits : board_fits board ≡ true
-      fits = rw size (eqb_same board_length)
+    pub stock-impossible : length board ≡ board_length → possible (basin_of f) board ≡ false → Some (told Board) ≡ stock_refusal f board
+    unfolding stock_refusal
+    stock-impossible size n = lent-impossible f (board_fits board) board acc (fits size) n
 
-      pub stock-impossible : possible (basin_of f) board ≡ false → told Board ≡ settled (stock_refusal f board)
-      unfolding stock_refusal
-      stock-impossible n = lent-impossible f (board_fits board) board acc fits n
-
-      pub stock-possible : possible (basin_of f) board ≡ true → accepted ≡ settled (stock_refusal f board)
-      unfolding stock_refusal
-      stock-possible n = lent-good f (board_fits board) board acc fits n
-
-  pub stock-refused : (a : Answer) → a ≡ settled (stock_refusal f board) → (a.number ≡ 0 → ⊥) → record { number = a.number; place = a.place; storage = 0; due = 0 } ≡ stock_of f board
-  unfolding stock_of stock_settled
-  stock-refused a e n = rw (settled-some (stock_refusal f board) a e n)
-
-  -- number 0: the file is accepted, the board fits and is possible
+  -- nothing is turned down: the file is accepted, the board fits and is possible
   pub record Clear : Type 0 where
-    pub file-ok : check_of f ≡ Accepted
+    pub file-ok : check_of f ≡ Ok tt
     pub size : length board ≡ board_length
     pub board-ok : possible (basin_of f) board ≡ true
 
-  pub stock-clear : (a : Answer) → a ≡ settled (stock_refusal f board) → a.number ≡ 0 → Clear
+  pub stock-clear : stock_refusal f board ≡ None → Clear
   unfolding stock_refusal
-  stock-clear a e n =
-      let k = lent-clear f (board_fits board) board a e n in
-      record { file-ok = k.file-ok; size = eq_of k.lists-ok; board-ok = k.board-ok }
+  stock-clear e = let k = lent-clear f (board_fits board) board e in record { file-ok = k.file-ok; size = eq_of k.lists-ok; board-ok = k.board-ok }
 
   pub clear_none : Clear → stock_refusal f board ≡ None
   unfolding stock_refusal
-  clear_none k = lent_none f (board_fits board) board k.file-ok (fits k.file-ok k.size) k.board-ok
+  clear_none k = lent_none f (board_fits board) board (record { file-ok = k.file-ok; lists-ok = fits k.size; board-ok = k.board-ok })
 
-  pub stock-made : Clear → (s d : ℕ) → s ≡ storage_sum (basin_of f) board → d ≡ due_sum (basin_of f) board → record { number = 0; place = 0; storage = s; due = d } ≡ stock_of f board
+  pub stock-refused : (r : Refusal) → Some (told r) ≡ stock_refusal f board → totals_told (Err r) ≡ stock_of f board
   unfolding stock_of stock_settled
-  stock-made k s d es ed = rw (clear_none k, es, ed)
+  stock-refused r e = rw (← e)
+
+  pub stock-made : (t : Totals) → None ≡ stock_refusal f board → t.storage ≡ storage_sum (basin_of f) board → t.due ≡ due_sum (basin_of f) board → totals_told (Ok t) ≡ stock_of f board
+  unfolding stock_of stock_settled
+  stock-made t e es ed = rw (← e, es, ed)
+
+  -- sums are those of a board that is not refused
+  pub summed-clear : (t : Totals) → totals_told (Ok t) ≡ stock_of f board → Clear
+  unfolding stock_of stock_refusal stock_settled
+  summed-clear t e = stock-clear (go (stock_refusal f board) (lent-numbered f (board_fits board) board) e)
+    where
+      go : (v : Option Answer) → Numbered v → totals_told (Ok t) ≡ stock_settled v f board → v ≡ None
+      go None n h = refl
+      go (Some a) n h = absurd (n (ap (λ (s : Stock). s.number) (sym h)))

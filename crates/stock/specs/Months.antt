@@ -1,10 +1,11 @@
 -- The call short_months (02, No. 6): in how many months of the present water year a right was short, for every file, list and place of a right, refusals
 -- included. It is refused as stock is.
-use Rattle.std.specs.Prelude.{List, ℕ, ltb, length, Option, None, Some}
+use Rattle.std.specs.Prelude.{List, ℕ, ltb, length, Option, None, Some, Result, Ok, Err}
 use Rattle.general.specs.Sums.{only}
 use Rattle.general.specs.Tests.{bits_set}
 use Rattle.places.specs.Board.{word_at}
-use Rattle.rules.specs.Answers.{Answer}
+use Rattle.rules.specs.declared.Refusal.{Refusal}
+use Rattle.rules.specs.Answers.{Answer, number_of, place_of}
 use Rattle.rules.specs.Basin.{Basin}
 use Rattle.records.specs.Records.{basin_of}
 use Rattle.stock.specs.Stock.{stock_refusal}
@@ -27,5 +28,10 @@ unfoldable pub short_months_of : List ℕ → List ℕ → ℕ → Months
 short_months_of f board i = months_settled (stock_refusal f board) (basin_of f) board i
 
 -- the same as the call gives it
+abbrev pub counted_told : Result ℕ Refusal → Months
+counted_told (Ok n) = record { number = 0; place = 0; months = n }
+counted_told (Err r) = record { number = number_of r; place = place_of r; months = 0 }
+
+-- and as C and the programs that print have it
 abbrev pub months_told : program.Months → Months
 months_told m = record { number = m.number; place = m.place; months = m.months }

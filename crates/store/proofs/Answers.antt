@@ -1,5 +1,5 @@
 -- Each answer of save, recall and drop, case by case. Assumes nothing.
-use Rattle.std.specs.Prelude.{Option, None, Some}
+use Rattle.std.specs.Prelude.{Option, None, Some, Result, Err, ok_or}
 use mathlib.Core.Path.{◌≡◌, refl, sym, ap, ◌∙◌}
 use mathlib.Core.Bool.{Bool, true, false, not}
 use mathlib.Core.List.{List}
@@ -7,18 +7,16 @@ use Prim.Native.Nat.{ℕ}
 use native.Mathlib.Omega.{arith}
 use lib.Dec.{eqb}
 use lib.ListN.{length}
-use Rattle.general.specs.Parts.{over}
 use Rattle.general.specs.Tests.{◌and◌}
 use Rattle.general.proofs.Tests.{eqb-other, and-of, and-true, both_of, eq_of}
 use Rattle.general.proofs.Loops.{and_no, and-not}
-use Rattle.rules.specs.declared.Verdict.{Verdict}
-use Rattle.rules.specs.declared.Verdict.TheVariants.{Lists, Name, Full}
+use Rattle.rules.specs.declared.Refusal.{Refusal}
+use Rattle.rules.specs.declared.Refusal.TheVariants.{Lists, Name, Full}
 use Rattle.rules.specs.Answers.{Answer, told, or_else, unless}
 use Rattle.boards.specs.Board.{board_fits}
-use Rattle.answers.specs.Answers.{accepted, settled}
-use Rattle.answers.proofs.Answers.{settled-some}
-use Rattle.entries.specs.Entries.{name_length, name_start, board_start, store_length, board_at, bytes_of, no_name, same_name, first_named, place_for}
-use Rattle.store.specs.Calls.{store_fits, name_refusal, Meant, refused, entry, meant_by, save_means, recall_means, name_means, saved, save_by, save_of, recall_by, recall_of, dropped, drop_by, drop_of}
+use Rattle.answers.specs.Answers.{accepted}
+use Rattle.entries.specs.Entries.{name_length, store_length, board_at, no_name, same_name, first_named, place_for}
+use Rattle.store.specs.Calls.{store_fits, name_refusal, Meant, refused, entry, meant_by, save_means, recall_means, name_means, saved, save_by, save_of, recall_by, recall_of, dropped, drop_by, drop_of, stored, recalled}
 
 -- ---- lengths
 
@@ -54,17 +52,13 @@ module _ (s n : List ℕ) (fits : Bool) where
 -- ---- what is turned down before the look-up
 
 module _ (t : Bool) (n : List ℕ) where
-  pub name-unfit : t ≡ false → told Lists ≡ settled (name_refusal t n)
-  unfolding name_refusal or_else unless settled
+  pub name-unfit : t ≡ false → Some (told Lists) ≡ name_refusal t n
+  unfolding name_refusal or_else unless
   name-unfit e = rw e
 
-  pub name-empty : t ≡ true → same_name n no_name ≡ true → told Name ≡ settled (name_refusal t n)
-  unfolding name_refusal or_else unless settled
+  pub name-empty : t ≡ true → same_name n no_name ≡ true → Some (told Name) ≡ name_refusal t n
+  unfolding name_refusal or_else unless
   name-empty e z = rw (e, z)
-
-  pub name-good : t ≡ true → same_name n no_name ≡ false → accepted ≡ settled (name_refusal t n)
-  unfolding name_refusal or_else unless settled
-  name-good e z = rw (e, z)
 
   pub name-none : t ≡ true → same_name n no_name ≡ false → name_refusal t n ≡ None
   unfolding name_refusal or_else unless
@@ -86,19 +80,12 @@ pub record Clear (s n : List ℕ) (fits : Bool) : Type 0 where
   pub used : same_name n no_name ≡ false
   pub none-refused : name_refusal (store_fits s n and fits) n ≡ None
 
-pub clear_of : (s n : List ℕ) (fits : Bool) (a : Answer) → a ≡ settled (name_refusal (store_fits s n and fits) n) → a.number ≡ 0 → Clear s n fits
-unfolding settled
-clear_of s n fits a e h = by_name (store_fits s n and fits) n (λ o. name_refusal (store_fits s n and fits) n ≡ o → a ≡ settled o → Clear s n fits) down kept refl e
-  where
-    down : (x : Answer) → (x.number ≡ 0 → ⊥) → name_refusal (store_fits s n and fits) n ≡ Some x → a ≡ settled (Some x) → Clear s n fits
-    down x g q w = absurd (g (ap (λ (y : Answer). y.number) (sym w) ∙ h))
-
-    kept : (store_fits s n and fits) ≡ true → same_name n no_name ≡ false → name_refusal (store_fits s n and fits) n ≡ None → a ≡ settled None → Clear s n fits
-    kept f z q w = record { lists = fitting s n fits f; used = z; none-refused = q }
+pub clear_of : (s n : List ℕ) (fits : Bool) → name_refusal (store_fits s n and fits) n ≡ None → Clear s n fits
+clear_of s n fits = by_name (store_fits s n and fits) n (λ o. o ≡ None → Clear s n fits) (λ a h e. cc) (λ f z e. record { lists = fitting s n fits f; used = z; none-refused = name-none _ n f z })
 
 -- ---- what a call comes to
 
-module _ (o : Option Answer) (found : Option ℕ) (cause : Verdict) where
+module _ (o : Option Answer) (found : Option ℕ) (cause : Refusal) where
   meant-down : (a : Answer) → o ≡ Some a → meant_by o found cause ≡ refused a
   unfolding meant_by
   meant-down a e = rw e
@@ -173,41 +160,18 @@ module _ (s n : List ℕ) where
 pub drop-judged : (s n : List ℕ) → name_refusal (store_fits s n and true) n ≡ name_refusal (store_fits s n) n
 drop-judged s n = ap (λ (t : Bool). name_refusal t n) (and-true (store_fits s n))
 
--- ---- what the code returns, by what its callees told
+-- ---- what a call is refused with
 
-module _ (s n b : List ℕ) (a : Answer) where
-  pub save-refused : a ≡ settled (name_refusal (store_fits s n and board_fits b) n) → (a.number ≡ 0 → ⊥) → record { answer = a; store = s } ≡ save_of s n b
-  save-refused e h = save-down s n b a (settled-some _ a e h)
+-- a look-up that finds nothing is refused with its cause
+pub wanting : {o : Option ℕ} {r cause : Refusal} → o ≡ None → ◌≡◌ {A = Result ℕ Refusal} (Err r) (ok_or o cause) → r ≡ cause
+wanting {o = None} e h = cc
+wanting {o = Some k} e h = cc
 
-  pub recall-refused : a ≡ settled (name_refusal (store_fits s n and board_fits b) n) → (a.number ≡ 0 → ⊥) → record { answer = a; board = b } ≡ recall_of s n b
-  recall-refused e h = recall-down s n b a (settled-some _ a e h)
+pub save-refused : (s n b : List ℕ) (r : Refusal) → Some (told r) ≡ name_refusal (store_fits s n and board_fits b) n → stored (told r) s ≡ save_of s n b
+save-refused s n b r e = save-down s n b (told r) (sym e)
 
-  module _ (k : Clear s n (board_fits b)) where
-    pub save-wanting : place_for s n ≡ None → a ≡ told Full → record { answer = a; store = s } ≡ save_of s n b
-    save-wanting o e = ap (λ (x : Answer). record { answer = x; store = s }) e ∙ save-full s n b k.none-refused o
+pub recall-refused : (s n b : List ℕ) (r : Refusal) → Some (told r) ≡ name_refusal (store_fits s n and board_fits b) n → recalled (told r) b ≡ recall_of s n b
+recall-refused s n b r e = recall-down s n b (told r) (sym e)
 
-    pub save-done : (e : ℕ) {m x y : List ℕ} → place_for s n ≡ Some e → a ≡ accepted → m ≡ n → x ≡ over s (name_start e) m → y ≡ over x (board_start e) (bytes_of b) → record { answer = a; store = y } ≡ save_of s n b
-    unfolding saved
-    save-done e o ea em ex ey =
-        let p : _ ≡ saved s e n b = ey ∙ ap (λ (z : List ℕ). over z (board_start e) (bytes_of b)) (ex ∙ ap (over s (name_start e)) em) in
-        (λ i. record { answer = ea i; store = p i }) ∙ save-made s n b k.none-refused e o
-
-    pub recall-missing : first_named s n ≡ None → a ≡ told Name → record { answer = a; board = b } ≡ recall_of s n b
-    recall-missing o e = ap (λ (x : Answer). record { answer = x; board = b }) e ∙ recall-none s n b k.none-refused o
-
-    pub recall-done : (e : ℕ) {x : List ℕ} → first_named s n ≡ Some e → a ≡ accepted → x ≡ board_at s e → record { answer = a; board = x } ≡ recall_of s n b
-    recall-done e o ea ex = (λ i. record { answer = ea i; board = ex i }) ∙ recall-made s n b k.none-refused e o
-
-module _ (s n : List ℕ) (a : Answer) where
-  pub drop-refused : a ≡ settled (name_refusal (store_fits s n and true) n) → (a.number ≡ 0 → ⊥) → record { answer = a; store = s } ≡ drop_of s n
-  drop-refused e h = drop-down s n a (sym (drop-judged s n) ∙ settled-some _ a e h)
-
-  module _ (k : Clear s n true) where
-    pub drop-missing : first_named s n ≡ None → a ≡ told Name → record { answer = a; store = s } ≡ drop_of s n
-    drop-missing o e = ap (λ (x : Answer). record { answer = x; store = s }) e ∙ drop-none s n (sym (drop-judged s n) ∙ k.none-refused) o
-
-    pub drop-done : (e : ℕ) {x : List ℕ} → first_named s n ≡ Some e → a ≡ accepted → x ≡ over s (name_start e) no_name → record { answer = a; store = x } ≡ drop_of s n
-    unfolding dropped
-    drop-done e o ea ex =
-        let p : _ ≡ dropped s e = ex in
-        (λ i. record { answer = ea i; store = p i }) ∙ drop-made s n (sym (drop-judged s n) ∙ k.none-refused) e o
+pub drop-refused : (s n : List ℕ) (r : Refusal) → Some (told r) ≡ name_refusal (store_fits s n and true) n → stored (told r) s ≡ drop_of s n
+drop-refused s n r e = drop-down s n (told r) (sym (drop-judged s n) ∙ sym e)

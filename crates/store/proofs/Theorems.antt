@@ -12,7 +12,7 @@ use Rattle.general.specs.Tables.{All}
 use Rattle.general.specs.Tests.{◌and◌}
 use Rattle.general.proofs.Tests.{eqb_same, by_eqb, eq_of, and-true}
 use Rattle.places.specs.Board.{board_length}
-use Rattle.rules.specs.declared.Verdict.TheVariants.{Name, Full}
+use Rattle.rules.specs.declared.Refusal.TheVariants.{Name, Full}
 use Rattle.rules.specs.Answers.{Answer, told}
 use Rattle.boards.specs.Board.{board_fits}
 use Rattle.answers.specs.Answers.{accepted}

@@ -2,12 +2,11 @@
 use Rattle.std.specs.Prelude.{Bool, not, List, ℕ, eqb, length, Option, None, Some}
 use Rattle.general.specs.Parts.{over}
 use Rattle.general.specs.Tests.{◌and◌}
-use Rattle.rules.specs.declared.Verdict.{Verdict}
-use Rattle.rules.specs.declared.Verdict.TheVariants.{Lists, Name, Full}
+use Rattle.rules.specs.declared.Refusal.{Refusal}
+use Rattle.rules.specs.declared.Refusal.TheVariants.{Lists, Name, Full}
 use Rattle.rules.specs.Answers.{Answer, told, or_else, unless}
 use Rattle.boards.specs.Board.{board_fits}
-use Rattle.answers.specs.declared.Answer.{Answer as Given}
-use Rattle.answers.specs.Answers.{accepted, answer_of}
+use Rattle.answers.specs.Answers.{accepted}
 use Rattle.entries.specs.Entries.{name_length, name_start, board_start, store_length, board_at, bytes_of, same_name, no_name, first_named, place_for}
 
 -- ---- what is turned down, in this order: 6, 11, 12
@@ -26,7 +25,7 @@ pub data Meant : Type 0 where
   entry : ℕ → Meant
 
 -- what was turned down before the look-up; else the entry that was found; else, where none was, this cause
-unfoldable pub meant_by : Option Answer → Option ℕ → Verdict → Meant
+unfoldable pub meant_by : Option Answer → Option ℕ → Refusal → Meant
 meant_by (Some a) found cause = refused a
 meant_by None None cause = refused (told cause)
 meant_by None (Some e) cause = entry e
@@ -85,10 +84,10 @@ drop_by (entry e) s = record { answer = accepted; store = dropped s e }
 unfoldable pub drop_of : List ℕ → List ℕ → Stored
 drop_of s n = drop_by (name_means s n) s
 
--- ---- the same as the calls give it
+-- ---- the same as the calls give it: what they answer, and what they leave
 
-abbrev pub stored : Given → List ℕ → Stored
-stored a s = record { answer = answer_of a; store = s }
+abbrev pub stored : Answer → List ℕ → Stored
+stored a s = record { answer = a; store = s }
 
-abbrev pub recalled : Given → List ℕ → Recalled
-recalled a board = record { answer = answer_of a; board = board }
+abbrev pub recalled : Answer → List ℕ → Recalled
+recalled a board = record { answer = a; board = board }

@@ -2,7 +2,7 @@
 -- proofs/Theorems.antt under the same names, in small letters.
 use Rattle.std.specs.Prelude.{◌≡◌, List, [], ◌∷◌, ℕ, ◌<◌, length}
 use Rattle.general.specs.Tables.{All}
-use Rattle.rules.specs.declared.Verdict.TheVariants.{Name, Full}
+use Rattle.rules.specs.declared.Refusal.TheVariants.{Name, Full}
 use Rattle.rules.specs.Answers.{told}
 use Rattle.answers.specs.Answers.{accepted}
 use Rattle.places.specs.Board.{board_length}

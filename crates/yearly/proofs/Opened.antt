@@ -3,7 +3,7 @@ use Rattle.std.specs.Prelude.{Option, None, Some}
 use mathlib.Core.Bool.{true}
 use mathlib.Core.List.{List, [], append-nil}
 use mathlib.Core.Path.{◌≡◌, refl, sym, ap, ◌∙◌}
-use Prim.Native.Nat.{ℕ, ◌-◌, ◌*◌, ◌≤◌, ◌<◌}
+use Prim.Native.Nat.{ℕ, ◌-◌, ◌*◌, ◌≤◌}
 use native.Mathlib.Nat.{mul-le-mul}
 use native.Mathlib.Omega.{arith}
 use lib.ListN.{length, take, drop, length-replicate, length-drop, drop_of_length-le}
@@ -16,14 +16,10 @@ use Rattle.rules.specs.Years.{room_for_year}
 use Rattle.records.specs.Records.{basin_of}
 use Rattle.filecheck.proofs.Accepted.{accepted-facts}
 use Rattle.boards.proofs.Bounds.{month-most}
-use Rattle.answers.specs.Answers.{settled}
-use Rattle.answers.proofs.Answers.{settled-some}
-use Rattle.answers.proofs.Numbered.{clear_none}
-use Rattle.book.specs.Book.{year_part}
-use Rattle.book.proofs.LookUp.{part-most}
+use Rattle.book.specs.Book.{year_part, part_where, lookup_refusal}
+use Rattle.book.proofs.LookUp.{part-most, found_none}
 use Rattle.years.specs.Years.{run_refusal}
 use Rattle.years.specs.Runs.{CanJudge}
-use Rattle.years.proofs.Numbered.{run-numbered}
 use Rattle.listing.specs.Listing.{refusal_line}
 use Rattle.listing.specs.Run.{sheet_bytes, Standing, Step}
 use Rattle.yearly.specs.Years.{least_list, year_refusal, part_left}
@@ -40,29 +36,25 @@ module _ (book : List ℕ) (y : ℕ) (l : Listing) where
   unfolding room_for_year
   long-enough = leb_yes (12 * report_length (basin_of l.file.now)) (length (least_list (basin_of l.file.now))) (omega (arith, length-replicate {A = ℕ} (12 * report_length (basin_of l.file.now)) 0))
 
-  module _ (a : Answer) (judged : (old : List ℕ) → room_for_year (basin_of l.file.now) (length old) ≡ true → a ≡ settled (run_refusal l.file.now book y l.board.now old)) where
-    here : a ≡ settled (year_refusal l.file.now book (standing l) y)
-    here = judged (least_list (basin_of l.file.now)) long-enough
+  module _ {v : Option Answer} (judged : (old : List ℕ) → room_for_year (basin_of l.file.now) (length old) ≡ true → v ≡ run_refusal l.file.now book y l.board.now old) where
+    opens : year_opening v (standing l) ≡ year_opening (year_refusal l.file.now book (standing l) y) (standing l)
+    opens = ap (λ (x : Option Answer). year_opening x (standing l)) (judged (least_list (basin_of l.file.now)) long-enough)
 
-    pub year-refused : (a.number ≡ 0 → ⊥) → (l' : Listing) → Refused a l l' → YearOpened book y l l'
+    pub year-refused : (a : Answer) → v ≡ Some a → (l' : Listing) → Refused a l l' → YearOpened book y l l'
     unfolding year_opening
-    year-refused n l' w = record {
+    year-refused a e l' w = record {
       added = refusal_line a;
       put = w.put;
-      equation =
-          (λ z. record { text = refusal_line a; standing = record { months = w.months z; board = w.board z }; more = w.more z })
-          ∙ sym (ap (λ (v : Option Answer). year_opening v (standing l)) (settled-some (year_refusal l.file.now book (standing l) y) a here n));
+      equation = (λ z. record { text = refusal_line a; standing = record { months = w.months z; board = w.board z }; more = w.more z }) ∙ rw e at opens;
       kept = w.kept;
     }
 
-    pub year-accepted : a.number ≡ 0 → l.more ≡ true → YearOpened book y l l
+    pub year-accepted : v ≡ None → l.more ≡ true → YearOpened book y l l
     unfolding year_opening
-    year-accepted n more = record {
+    year-accepted e more = record {
       added = [];
       put = record { bytes = sym (append-nil l.text.bytes); room = omega arith; within = omega arith };
-      equation =
-          (λ z. record { text = []; standing = standing l; more = more z })
-          ∙ sym (ap (λ (v : Option Answer). year_opening v (standing l)) (clear_none (year_refusal l.file.now book (standing l) y) (run-numbered l.file.now book y l.board.now (least_list (basin_of l.file.now))) a here n));
+      equation = (λ z. record { text = []; standing = standing l; more = more z }) ∙ rw e at opens;
       kept = kept_none l;
     }
 
@@ -92,12 +84,16 @@ module _ (f : List ℕ) (board : List ℕ) (c : CanJudge f board) {size m : ℕ}
   pub first_small : size * m ≤ 256 * 11
   first_small = mul-le-mul {n₁ = size} {m₁ = m} {n₂ = 256} {m₂ = 11} (omega (arith, es, (accepted-facts f c.accepted).few_rows)) (omega (arith, em, month-most (basin_of f) board c.can))
 
-  module _ (book : List ℕ) (y : ℕ) {part : List ℕ} (ep : part ≡ year_part f book y) where
-    left_is : drop (size * m) part ≡ part_left f book y board
-    left_is = λ z. drop (es z * em z) (ep z)
+  module _ (book : List ℕ) (y : ℕ) where
+    pub first-within : {part : List ℕ} → None ≡ lookup_refusal f book y → part ≡ year_part f book y → size * m ≤ length part
+    first-within e ep =
+        let g = found_none f book y (sym e) in
+        let k : size * m ≤ size * 12 = mul-le-mul {n₁ = size} {m₁ = m} {n₂ = size} {m₂ = 12} (omega arith) (omega (arith, em, month-most (basin_of f) board c.can)) in
+        omega (arith, k, es, g.size, ap (λ (x : List ℕ). length x) ep)
 
-    pub left-none : length part < size * m → take 0 part ≡ part_left f book y board
-    left-none h = sym (drop_of_length-le part {i = size * m} (omega arith)) ∙ left_is
+    pub left-none : (a : Answer) → Some a ≡ lookup_refusal f book y → [] ≡ part_left f book y board
+    unfolding year_part part_where
+    left-none a e = rw (← e) (sym (drop_of_length-le [] {i = sheet_bytes (basin_of f) * month_at board} (omega arith)))
 
-    pub left-some : take (length part - size * m) (drop (size * m) part) ≡ part_left f book y board
-    left-some = take_all (length part - size * m) (drop (size * m) part) (omega (arith, length-drop (size * m) part)) ∙ left_is
+    pub left-some : {part : List ℕ} → part ≡ year_part f book y → take (length part - size * m) (drop (size * m) part) ≡ part_left f book y board
+    left-some {part} ep = take_all (length part - size * m) (drop (size * m) part) (omega (arith, length-drop (size * m) part)) ∙ (λ z. drop (es z * em z) (ep z))

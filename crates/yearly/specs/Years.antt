@@ -1,12 +1,11 @@
 -- The listing of picked years of a runoff book (02, No. 4): a basin file, a book and years. Each year is run from where the listing stands, as a year run is.
 -- With it the steps of a program that lists so, and that their texts are this listing; and years as a file of months. proofs/Years and proofs/Bodies prove it.
-use Rattle.std.specs.Prelude.{Bool, true, false, List, [], ◌∷◌, ◌++◌, ◌≡◌, ℕ, ◌*◌, ◌<◌, length, drop, replicate, Option, None, Some}
+use Rattle.std.specs.Prelude.{Bool, true, false, List, [], ◌∷◌, ◌++◌, ◌≡◌, ℕ, ◌*◌, ◌<◌, length, drop, replicate, Option, None, Some, Ok}
 use Rattle.general.specs.Tables.{All}
 use Rattle.places.specs.Board.{month_at}
 use Rattle.rules.specs.Basin.{Basin}
 use Rattle.rules.specs.Answers.{Answer}
 use Rattle.rules.specs.Tally.{report_length}
-use Rattle.rules.specs.declared.Verdict.TheVariants.{Accepted}
 use Rattle.filecheck.specs.Check.{check_of}
 use Rattle.records.specs.Records.{basin_of}
 use Rattle.answers.specs.Answers.{file_refusal}
@@ -97,7 +96,7 @@ YearsMade f book s (y ∷ ys) (o ∷ os) =
 
 -- Of an accepted file: the header and the texts of the steps, from the fresh board on, are the listing of the years.
 abbrev pub YearsList : Type 0
-YearsList = (f book ys : List ℕ) → check_of f ≡ Accepted → (os : List Step) → YearsMade f book (begin (basin_of f)) ys os → header ++ texts_of os ≡ years_listing f book ys
+YearsList = (f book ys : List ℕ) → check_of f ≡ Ok tt → (os : List Step) → YearsMade f book (begin (basin_of f)) ys os → header ++ texts_of os ≡ years_listing f book ys
 
 -- Of a file that is turned down: the header and the refusal are.
 abbrev pub RefusalListsYears : Type 0
@@ -117,4 +116,4 @@ bodies_of f book (y ∷ ys) = year_part f book y ++ bodies_of f book ys
 
 -- Where each year is accepted, the listing of the years is that of a file of months that holds their bodies.
 abbrev pub YearsAsMonths : Type 0
-YearsAsMonths = (f book ys : List ℕ) → check_of f ≡ Accepted → YearsAccepted f book (begin (basin_of f)) ys → years_listing f book ys ≡ listing_of f (bodies_of f book ys)
+YearsAsMonths = (f book ys : List ℕ) → check_of f ≡ Ok tt → YearsAccepted f book (begin (basin_of f)) ys → years_listing f book ys ≡ listing_of f (bodies_of f book ys)

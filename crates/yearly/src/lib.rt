@@ -6,7 +6,7 @@ ghost use Rattle.years.specs.Runs.{CanJudge};
 ghost use Rattle.yearly.specs.Years.{part_left};
 ghost use Rattle.yearly.specs.Opening.{CanOpenYear, YearOpened};
 
-use book::find::year_part;
+use book::find::find_year;
 use closing::in_year;
 use lister::Listing;
 use lister::blocks::sheet_size;
@@ -19,9 +19,9 @@ pub fn open_year(listing: &mut Listing, book: &[u8], year: u32)
     ensures { YearOpened book.now year listing.old listing.new }
 {
     let board = &mut *listing.board;
-    let answer = judge_year(listing.file, book, year, board);
-    if answer.number != 0 {
-        listing.refuse(answer);
+    match judge_year(listing.file, book, year, board) {
+        Ok(()) => {}
+        Err(refusal) => listing.refuse(refusal),
     }
 }
 
@@ -30,10 +30,9 @@ pub fn sheets_left<'a>(file: &[u8], book: &'a [u8], year: u32, board: &[u64]) ->
     requires { CanJudge file.now board.now }
     ensures { result.now ≡ part_left file.now book.now year board.now }
 {
-    let part = year_part(file, book, year);
     let first = sheet_size(file) * in_year(board[MONTH]);
-    if part.len() < first {
-        return &part[..0];
+    match find_year(file, book, year) {
+        Ok(part) => &part[first..],
+        Err(_) => &book[..0],
     }
-    &part[first..]
 }

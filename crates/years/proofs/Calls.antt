@@ -1,6 +1,6 @@
 -- The month calls of a year: on an accepted file and a possible board, with room for their reports, they are refused just where a sheet is over its limit, and
 -- where none is they leave what the months leave. Assumes nothing.
-use Rattle.std.specs.Prelude.{Option, None, Some}
+use Rattle.std.specs.Prelude.{Option, None, Some, Ok}
 use mathlib.Core.Path.{◌≡◌, refl, ap, ◌∙◌}
 use mathlib.Core.Bool.{true}
 use mathlib.Core.List.{List, [], ◌∷◌, ◌++◌}
@@ -13,7 +13,6 @@ use Rattle.general.specs.Tables.{All}
 use Rattle.general.specs.Tests.{◌and◌}
 use Rattle.general.proofs.Tests.{leb_yes, eqb_same}
 use Rattle.places.specs.Board.{board_length}
-use Rattle.rules.specs.declared.Verdict.TheVariants.{Accepted as AcceptedFile}
 use Rattle.rules.specs.Answers.{Answer, or_else}
 use Rattle.rules.specs.Basin.{Basin, rows}
 use Rattle.rules.specs.Tally.{report_length, lists_fit, over_limit, over_answer}
@@ -44,7 +43,7 @@ unfolding month_settled
 settled-month b r bd rp None e = (refl, refl)
 settled-month b r bd rp (Some a) e = absurd (let z : ◌≡◌ {A = ℕ} 0 1 = cc in omega arith)
 
-module _ (f : List ℕ) (acc : check_of f ≡ AcceptedFile) where
+module _ (f : List ℕ) (acc : check_of f ≡ Ok tt) where
   abbrev basin : Basin
   basin = basin_of f
 
@@ -61,7 +60,7 @@ module _ (f : List ℕ) (acc : check_of f ≡ AcceptedFile) where
     runoff-alone : month_refusal f r bd rp ≡ over_answer (over_limit r)
     unfolding month_refusal
     runoff-alone =
-        ap (λ (v : Option Answer). or_else v (over_answer (over_limit r))) (lent_none f (all_fit basin r bd rp) bd acc (all-fit basin r bd rp h.sheet h.room h.size) h.can)
+        ap (λ (v : Option Answer). or_else v (over_answer (over_limit r))) (lent_none f (all_fit basin r bd rp) bd (record { file-ok = acc; lists-ok = all-fit basin r bd rp h.sheet h.room h.size; board-ok = h.can }))
         ∙ or-none (over_answer (over_limit r))
 
     is-settled : month_of f r bd rp ≡ month_settled (over_answer (over_limit r)) basin r bd rp

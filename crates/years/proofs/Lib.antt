@@ -2,5 +2,4 @@ pub mod Sheets
 pub mod Rest
 pub mod Calls
 pub mod Runs
-pub mod Numbered
 pub mod Theorems

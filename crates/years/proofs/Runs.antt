@@ -1,5 +1,5 @@
 -- From the months of a body to the whole run: what is turned down, and what is left. Assumes nothing.
-use Rattle.std.specs.Prelude.{Option, None, Some}
+use Rattle.std.specs.Prelude.{Option, None, Some, Ok}
 use mathlib.Core.Path.{◌≡◌, refl, sym, ap, ◌∙◌, subst}
 use mathlib.Core.Bool.{Bool, true}
 use mathlib.Core.List.{List}
@@ -13,11 +13,12 @@ use Rattle.general.proofs.Tests.{both_of, eq_of, le_of}
 use Rattle.places.specs.Board.{board_length, month_at}
 use Rattle.places.specs.Report.{report_end}
 use Rattle.rules.specs.Accepted.{Accepted}
-use Rattle.rules.specs.Answers.{Answer, or_else}
+use Rattle.rules.specs.declared.Refusal.{Refusal}
+use Rattle.rules.specs.Answers.{Answer, told as refused_with, or_else}
 use Rattle.rules.specs.Basin.{Basin, rows}
 use Rattle.rules.specs.Tally.{report_length}
 use Rattle.rules.specs.Years.{room_for_year, run_answer}
-use Rattle.rules.proofs.Answers.{or-none, or_some}
+use Rattle.rules.proofs.Answers.{or-none}
 use Rattle.records.specs.Records.{rows_of, reservoir_count, right_count, bodies, basin_of}
 use Rattle.records.specs.declared.bodies.Bodies.{Bodies}
 use Rattle.records.specs.Bodies.{basin_in, BodiesOf}
@@ -28,20 +29,20 @@ use Rattle.boards.specs.Board.{possible}
 use Rattle.boards.specs.Bodies.{Counted}
 use Rattle.boards.proofs.Bodies.{counted}
 use Rattle.boards.proofs.Bounds.{month-most}
-use Rattle.answers.specs.Answers.{lent_refusal, settled}
-use Rattle.answers.proofs.Answers.{settled-some, Clear, lent_none}
-use Rattle.month.specs.Month.{Outcome}
+use Rattle.answers.specs.Answers.{lent_refusal, count_answer}
+use Rattle.answers.proofs.Answers.{Clear, lent_none}
+use Rattle.month.specs.Month.{Outcome, outcome_of}
 use Rattle.book.specs.Book.{body_size, lookup_refusal, year_part}
 use Rattle.years.specs.Years.{sheets_in, year_sheets, sheets_left, Made, calls_made, year_made, run_fits, run_refusal, run_settled, year_of, YearMeets}
 use Rattle.years.specs.Runs.{first_over, made_of, CanRead, CanJudge, CanRest, RestRan, CanThrough, WentThrough, body_refusal, BodyMeets}
-use Rattle.years.proofs.Sheets.{sheets-length, sheets-wide, clear_first}
+use Rattle.years.proofs.Sheets.{sheets-length, sheets-wide}
 use Rattle.years.proofs.Calls.{CanCall, refused_over, made-months}
 
 -- ---- a run settled
 
-over-is : (v : Option Answer) (k : ℕ) (x : Made) (bd old : List ℕ) (a : Answer) → v ≡ Some a → run_settled v k x bd old ≡ record { answer = a; board = bd; report = old }
+over-is : (v : Option Answer) (k : ℕ) (x : Made) (bd old : List ℕ) (r : Refusal) → Some (refused_with r) ≡ v → outcome_of (refused_with r) bd old ≡ run_settled v k x bd old
 unfolding run_settled
-over-is v k x bd old a e = rw e
+over-is v k x bd old r e = rw (← e)
 
 ran-is : (v : Option Answer) (x : Made) (bd old : List ℕ) {k l : ℕ} {bd' old' : List ℕ} → v ≡ None → k ≡ l → bd' ≡ x.board → old' ≡ x.reports
     → run_settled v k x bd old ≡ record { answer = record { number = 0; place = l }; board = bd'; report = old' }
@@ -63,35 +64,32 @@ module _ (b : Basin) (body : List ℕ) (told : ℕ) (runoff bd old : List ℕ) (
   pub may_read : CanRead body runoff
   may_read = record { few = omega (arith, c.year.numbers, c.year.accepted.few_rows); bytes = c.year.bytes }
 
-  module _ (m : ℕ) (em : m ≡ month_at bd) (a : Answer) (ea : a ≡ settled (first_over (drop m (sheets_in (length runoff) body)))) where
+  module _ (m : ℕ) (em : m ≡ month_at bd) where
     abbrev from : List (List ℕ)
     from = drop m (sheets_in (length runoff) body)
 
     at-month : {o : Outcome} → WentThrough b from bd old o → WentThrough b (drop (month_at bd) (sheets_in (length runoff) body)) bd old o
     at-month {o} w = subst (λ (x : ℕ). WentThrough b (drop x (sheets_in (length runoff) body)) bd old o) em w
 
-    pub over-told : (a.number ≡ 0 → ⊥) → WentThrough b (drop (month_at bd) (sheets_in (length runoff) body)) bd old (record { answer = a; board = bd; report = old })
-    over-told n = at-month (sym (over-is (first_over from) (length from) (made_of b from bd old) bd old a (settled-some (first_over from) a ea n)))
+    pub over-told : (r : Refusal) → Some (refused_with r) ≡ first_over from → WentThrough b (drop (month_at bd) (sheets_in (length runoff) body)) bd old (outcome_of (refused_with r) bd old)
+    over-told r e = at-month (over-is (first_over from) (length from) (made_of b from bd old) bd old r e)
 
-    module _ (n : a.number ≡ 0) where
-      none_over : first_over from ≡ None
-      none_over = clear_first from (ap (λ (x : Answer). x.number) (sym ea) ∙ n)
-
+    module _ (none_over : None ≡ first_over from) where
       pub can-rest : (runoff' : List ℕ) → length runoff' ≡ length runoff → CanRest b body m told runoff' bd old
       can-rest runoff' er = record {
         year = record { accepted = c.year.accepted; numbers = er ∙ c.year.numbers; bytes = omega (arith, er, c.year.bytes); size = c.year.size; can = c.year.can };
         month = omega (arith, em, month-in);
-        none_over = ap (λ (x : ℕ). first_over (drop m (sheets_in x body))) er ∙ none_over;
+        none_over = ap (λ (x : ℕ). first_over (drop m (sheets_in x body))) er ∙ sym none_over;
         report = c.report;
         room = omega (arith, c.room, mul-le-mul {n₁ = 12 - m} {m₁ = told} {n₂ = 12} {m₂ = told} (omega arith) (omega arith));
       }
 
       pub run-told : {x : ℕ} (bd' old' : List ℕ) → x ≡ length runoff → RestRan b (drop m (sheets_in x body)) bd old bd' old'
-          → WentThrough b (drop (month_at bd) (sheets_in (length runoff) body)) bd old (record { answer = record { number = 0; place = 12 - m }; board = bd'; report = old' })
+          → WentThrough b (drop (month_at bd) (sheets_in (length runoff) body)) bd old (outcome_of (count_answer (Ok (12 - m))) bd' old')
       run-told {x} bd' old' ex q =
           let q' : RestRan b from bd old bd' old' = subst (λ (y : ℕ). RestRan b (drop m (sheets_in y body)) bd old bd' old') ex q in
           let count : length from ≡ 12 - m = omega (arith, length-drop m (sheets_in (length runoff) body), sheets-length (length runoff) body) in
-          at-month (sym (ran-is (first_over from) (made_of b from bd old) bd old none_over count q'.board-left q'.reports_left))
+          at-month (sym (ran-is (first_over from) (made_of b from bd old) bd old (sym none_over) count q'.board-left q'.reports_left))
 
 -- ---- the lists, by the bodies
 
@@ -127,10 +125,9 @@ module _ (f body bd old : List ℕ) where
   abbrev left : List (List ℕ)
   left = drop (month_at bd) sheets
 
-  pub body-unfit : (a : Answer) → a ≡ settled (lent_refusal f fits bd) → (a.number ≡ 0 → ⊥) → BodyMeets f sheets bd old (record { answer = a; board = bd; report = old })
-  unfolding body_refusal
-  body-unfit a e n = sym (over-is (body_refusal f sheets bd old) (length left) (calls_made f left bd old) bd old a
-      (or_some (lent_refusal f fits bd) (calls_made f left bd old).refused a (settled-some (lent_refusal f fits bd) a e n)))
+  pub body-unfit : (r : Refusal) → Some (refused_with r) ≡ lent_refusal f fits bd → BodyMeets f sheets bd old (outcome_of (refused_with r) bd old)
+  unfolding body_refusal or_else
+  body-unfit r e = over-is (body_refusal f sheets bd old) (length left) (calls_made f left bd old) bd old r (rw (← e))
 
   module _ (k : Clear f fits bd) where
     parts : (length bd ≡ board_length) × (12 * report_length basin ≤ length old)
@@ -151,7 +148,7 @@ module _ (f body bd old : List ℕ) where
     body-over : body_refusal f sheets bd old ≡ first_over left
     unfolding body_refusal
     body-over =
-        ap (λ (v : Option Answer). or_else v (calls_made f left bd old).refused) (lent_none f fits bd k.file-ok k.lists-ok k.board-ok)
+        ap (λ (v : Option Answer). or_else v (calls_made f left bd old).refused) (lent_none f fits bd k)
         ∙ or-none (calls_made f left bd old).refused
         ∙ refused_over f k.file-ok left bd old can-call
 
@@ -201,10 +198,9 @@ module _ (f body bd old : List ℕ) where
 -- ---- the year
 
 module _ (f k : List ℕ) (y : ℕ) (bd old : List ℕ) where
-  pub year-refused : (a : Answer) → lookup_refusal f k y ≡ Some a → YearMeets f k y bd old (record { answer = a; board = bd; report = old })
-  unfolding year_of run_refusal
-  year-refused a e = sym (over-is (run_refusal f k y bd old) (length (sheets_left f k y bd)) (year_made f k y bd old) bd old a
-      (or_some (lookup_refusal f k y) (or_else (lent_refusal f (run_fits (basin_of f) bd old) bd) (year_made f k y bd old).refused) a e))
+  pub year-refused : (r : Refusal) → Some (refused_with r) ≡ lookup_refusal f k y → YearMeets f k y bd old (outcome_of (refused_with r) bd old)
+  unfolding year_of run_refusal or_else
+  year-refused r e = over-is (run_refusal f k y bd old) (length (sheets_left f k y bd)) (year_made f k y bd old) bd old r (rw (← e))
 
   run-body : lookup_refusal f k y ≡ None → run_refusal f k y bd old ≡ body_refusal f (year_sheets f k y) bd old
   unfolding run_refusal body_refusal
@@ -219,19 +215,19 @@ module _ (f k : List ℕ) (y : ℕ) (bd old : List ℕ) where
 
   -- ---- judged without a run, on an accepted file and a possible board, for a list that is long enough
 
-  pub judged-missing : (a : Answer) → lookup_refusal f k y ≡ Some a → a ≡ settled (run_refusal f k y bd old)
-  unfolding run_refusal settled
-  judged-missing a e = sym (ap settled (or_some (lookup_refusal f k y) (or_else (lent_refusal f (run_fits (basin_of f) bd old) bd) (year_made f k y bd old).refused) a e))
+  pub judged-missing : (r : Refusal) → Some (refused_with r) ≡ lookup_refusal f k y → Some (refused_with r) ≡ run_refusal f k y bd old
+  unfolding run_refusal or_else
+  judged-missing r e = rw (← e)
 
   module _ (j : CanJudge f bd) (room : room_for_year (basin_of f) (length old) ≡ true) where
     judge-clear : Clear f (run_fits (basin_of f) bd old) bd
     unfolding run_fits ◌and◌
     judge-clear = record { file-ok = j.accepted; lists-ok = rw (j.size, room); board-ok = j.can }
 
-    pub judged-found : {n m : ℕ} (body : List ℕ) (a : Answer) → body ≡ year_part f k y → lookup_refusal f k y ≡ None → n ≡ rows (basin_of f) → m ≡ month_at bd
-        → a ≡ settled (first_over (drop m (sheets_in n body))) → a ≡ settled (run_refusal f k y bd old)
+    pub judged-found : {n m : ℕ} {x : Option Answer} (body : List ℕ) → body ≡ year_part f k y → lookup_refusal f k y ≡ None → n ≡ rows (basin_of f) → m ≡ month_at bd
+        → x ≡ first_over (drop m (sheets_in n body)) → x ≡ run_refusal f k y bd old
     unfolding year_sheets
-    judged-found {n} {m} body a e none_here en em h =
+    judged-found {n} {m} body e none_here en em h =
         h
-        ∙ (λ z. settled (first_over (drop (em z) (sheets_in (en z) (e z)))))
-        ∙ ap settled (sym (run-body none_here ∙ body-over f (year_part f k y) bd old judge-clear))
+        ∙ (λ z. first_over (drop (em z) (sheets_in (en z) (e z))))
+        ∙ sym (run-body none_here ∙ body-over f (year_part f k y) bd old judge-clear)

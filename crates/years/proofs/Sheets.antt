@@ -1,6 +1,6 @@
 -- The sheets of a year's body, and the first of them that is over its limit. Assumes nothing.
 use Rattle.std.specs.Prelude.{Option, None, Some}
-use mathlib.Core.Path.{◌≡◌, refl, sym, ap, ◌∙◌}
+use mathlib.Core.Path.{◌≡◌, sym, ap, ◌∙◌}
 use mathlib.Core.List.{List, [], ◌∷◌}
 use Prim.Native.Nat.{ℕ, zero, suc, ◌+◌, ◌-◌, ◌*◌, ◌≤◌, ◌<◌}
 use native.Mathlib.Numerals.{add-one}
@@ -11,14 +11,13 @@ use Rattle.general.specs.Tables.{All}
 use Rattle.general.proofs.Entries.{all-tab}
 use Rattle.general.proofs.Loops.{step-within}
 use Rattle.general.proofs.Tables.{tab-length, tab-at}
-use Rattle.rules.specs.Answers.{Answer, or_else}
+use Rattle.rules.specs.declared.Refusal.{Refusal}
+use Rattle.rules.specs.Answers.{Answer, told, or_else}
 use Rattle.rules.specs.Tally.{over_limit, over_answer}
-use Rattle.rules.proofs.Answers.{or-first, or-second, or_some}
+use Rattle.rules.proofs.Answers.{or-first, or-second}
 use Rattle.sheets.specs.Sheets.{sheet_size, sheet_of, sheet_part, sheet_at}
 use Rattle.sheets.proofs.Sheets.{sheet-length}
-use Rattle.answers.specs.Answers.{accepted, settled}
-use Rattle.answers.proofs.Answers.{settled-some}
-use Rattle.month.proofs.Settling.{clear-over}
+use Rattle.month.proofs.Settling.{over-none}
 use Rattle.book.specs.Book.{body_size}
 use Rattle.years.specs.Years.{sheets_in}
 use Rattle.years.specs.Runs.{first_over, CanRead}
@@ -37,11 +36,6 @@ pub sheet-part : (n : ℕ) (body : List ℕ) (k : ℕ) → sheet_of n (take (she
 sheet-part n body k =
     let e : sheet_size n * k + sheet_size n - sheet_size n * k ≡ sheet_size n = omega arith in
     ap (λ (x : ℕ). sheet_of n (take x (drop (sheet_size n * k) body))) e
-
-over_none : (o : Option ℕ) → over_answer o ≡ None → o ≡ None
-unfolding over_answer
-over_none None e = refl
-over_none (Some i) e = absurd (let z : ◌≡◌ {A = ℕ} 0 1 = cc in omega arith)
 
 all_drop : {A : Type 0} (P : A → Type 0) (k : ℕ) (l : List A) → All P l → All P (drop k l)
 all_drop P zero l h = h
@@ -80,31 +74,20 @@ module _ (n : ℕ) (body : List ℕ) where
   unfolding first_over
   over-from k h = ap first_over (sheets-from k h)
 
-  pub over-here : (k : ℕ) (a : Answer) → k < 12 → a ≡ settled (over_at k) → (a.number ≡ 0 → ⊥) → a ≡ settled (over_in k)
-  unfolding settled
-  over-here k a h e q = sym (ap settled (over-from k h ∙ or_some (over_at k) (over_in (k + 1)) a (settled-some (over_at k) a e q)))
+  pub over-here : (k : ℕ) (r : Refusal) → k < 12 → Some (told r) ≡ over_at k → Some (told r) ≡ over_in k
+  unfolding or_else
+  over-here k r h e = sym (over-from k h ∙ rw (← e))
 
-  pub over-next : (k : ℕ) (a : Answer) → k < 12 → a ≡ settled (over_at k) → a.number ≡ 0 → over_in (k + 1) ≡ over_in k
-  unfolding or_else over_answer
-  over-next k a h e q = sym (over-from k h ∙ ap (λ (x : Option ℕ). or_else (over_answer x) (over_in (k + 1))) (clear-over (over_limit (sheet_at n body k)) (ap (λ (x : Answer). x.number) (sym e) ∙ q)))
+  pub over-next : (k : ℕ) → k < 12 → None ≡ over_at k → over_in (k + 1) ≡ over_in k
+  unfolding or_else
+  over-next k h e = sym (over-from k h ∙ rw (← e))
 
-  pub over-end : (k : ℕ) → 12 ≤ k → accepted ≡ settled (over_in k)
-  unfolding first_over settled
-  over-end k h = sym (ap (λ (x : List (List ℕ)). settled (first_over x)) (sheets-end k h))
+  pub over-end : (k : ℕ) → 12 ≤ k → None ≡ over_in k
+  unfolding first_over
+  over-end k h = sym (ap first_over (sheets-end k h))
 
   -- none over from k on: none in sheet k, none after it
   pub none_from : (k : ℕ) → k < 12 → over_in k ≡ None → (over_limit (sheet_at n body k) ≡ None) × (over_in (k + 1) ≡ None)
   none_from k h e =
       let both : or_else (over_at k) (over_in (k + 1)) ≡ None = sym (over-from k h) ∙ e in
-      (over_none (over_limit (sheet_at n body k)) (or-first (over_at k) (over_in (k + 1)) both), or-second (over_at k) (over_in (k + 1)) both)
-
-clear_or : (o : Option ℕ) (later : Option Answer) → ((settled later).number ≡ 0 → later ≡ None) → (settled (or_else (over_answer o) later)).number ≡ 0 → or_else (over_answer o) later ≡ None
-unfolding or_else over_answer settled
-clear_or None later h q = h q
-clear_or (Some i) later h q = absurd (omega (arith, q))
-
--- number 0 says that no sheet is over its limit
-pub clear_first : (rs : List (List ℕ)) → (settled (first_over rs)).number ≡ 0 → first_over rs ≡ None
-unfolding first_over
-clear_first [] e = refl
-clear_first (r ∷ rs) e = clear_or (over_limit r) (first_over rs) (clear_first rs) e
+      (over-none (over_limit (sheet_at n body k)) (or-first (over_at k) (over_in (k + 1)) both), or-second (over_at k) (over_in (k + 1)) both)

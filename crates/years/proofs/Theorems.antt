@@ -1,5 +1,5 @@
 -- The theorems of specs/Theorems.antt. Assumes nothing.
-use Rattle.std.specs.Prelude.{Option, None, Some}
+use Rattle.std.specs.Prelude.{Option, None, Some, Ok}
 use mathlib.Core.Path.{◌≡◌, refl, sym, ap, ◌∙◌}
 use mathlib.Core.Bool.{true}
 use mathlib.Core.List.{List, [], ◌∷◌}
@@ -8,7 +8,6 @@ use native.Mathlib.Omega.{arith}
 use lib.ListN.{length, length-drop}
 use Rattle.general.specs.Tables.{All}
 use Rattle.places.specs.Board.{board_length, month_at}
-use Rattle.rules.specs.declared.Verdict.TheVariants.{Accepted as AcceptedFile}
 use Rattle.rules.specs.Answers.{Answer, or_else}
 use Rattle.rules.specs.Basin.{rows}
 use Rattle.rules.specs.Tally.{report_length, over_limit, over_answer}
@@ -16,7 +15,7 @@ use Rattle.rules.proofs.Answers.{or-first, or-second}
 use Rattle.records.specs.Records.{basin_of}
 use Rattle.filecheck.specs.Check.{check_of}
 use Rattle.boards.specs.Board.{possible}
-use Rattle.answers.specs.Answers.{accepted, lent_refusal, settled}
+use Rattle.answers.specs.Answers.{lent_refusal}
 use Rattle.answers.proofs.Answers.{Clear, lent-clear}
 use Rattle.month.specs.Month.{board_after, month_of}
 use Rattle.book.specs.Book.{lookup_refusal, year_part}
@@ -29,7 +28,7 @@ use Rattle.years.proofs.Runs.{can-call}
 
 -- ---- plain month calls with sheets that are not over their limit
 
-module _ (f : List ℕ) (acc : check_of f ≡ AcceptedFile) (report : List ℕ) (room : report_length (basin_of f) ≤ length report) where
+module _ (f : List ℕ) (acc : check_of f ≡ Ok tt) (report : List ℕ) (room : report_length (basin_of f) ≤ length report) where
   months-after : (rs : List (List ℕ)) (bd : List ℕ) → All (λ (r : List ℕ). length r ≡ rows (basin_of f)) rs → length bd ≡ board_length → possible (basin_of f) bd ≡ true → first_over rs ≡ None
       → after_months f rs bd report ≡ boards_after (basin_of f) rs bd
   unfolding after_months first_over boards_after
@@ -48,10 +47,6 @@ unfolding run_settled
 settled-board None k x bd old e = refl
 settled-board (Some a) k x bd old e = absurd (let z : ◌≡◌ {A = ℕ} 0 1 = cc in omega arith)
 
-nothing_lent : (f : List ℕ) (bd old : List ℕ) → lent_refusal f (run_fits (basin_of f) bd old) bd ≡ None → Clear f (run_fits (basin_of f) bd old) bd
-unfolding settled
-nothing_lent f bd old e = lent-clear f (run_fits (basin_of f) bd old) bd accepted (ap settled (sym e)) refl
-
 module _ (f book : List ℕ) (year : ℕ) (bd old : List ℕ) (run : run_refusal f book year bd old ≡ None) where
   abbrev made : Made
   made = year_made f book year bd old
@@ -61,7 +56,7 @@ module _ (f book : List ℕ) (year : ℕ) (bd old : List ℕ) (run : run_refusal
   beside = or-second (lookup_refusal f book year) (or_else (lent_refusal f (run_fits (basin_of f) bd old) bd) made.refused) run
 
   clear : Clear f (run_fits (basin_of f) bd old) bd
-  clear = nothing_lent f bd old (or-first (lent_refusal f (run_fits (basin_of f) bd old) bd) made.refused beside)
+  clear = lent-clear f (run_fits (basin_of f) bd old) bd (or-first (lent_refusal f (run_fits (basin_of f) bd old) bd) made.refused beside)
 
   calls : CanCall f clear.file-ok (sheets_left f book year bd) bd old
   unfolding year_sheets

@@ -1,8 +1,7 @@
 -- The steps of a year run on a basin: what each asks for, and what it leaves.
-use Rattle.std.specs.Prelude.{◌≡◌, true, List, [], ◌∷◌, ◌++◌, ℕ, ◌-◌, ◌*◌, ◌≤◌, ◌<◌, length, take, drop, Option, None}
+use Rattle.std.specs.Prelude.{◌≡◌, true, List, [], ◌∷◌, ◌++◌, ℕ, ◌-◌, ◌*◌, ◌≤◌, ◌<◌, length, take, drop, Option, None, Ok}
 use Rattle.places.specs.Board.{board_length, month_at}
 use Rattle.rules.specs.Accepted.{Accepted}
-use Rattle.rules.specs.declared.Verdict.TheVariants.{Accepted as AcceptedFile}
 use Rattle.rules.specs.Answers.{Answer, or_else}
 use Rattle.rules.specs.Basin.{Basin, rows}
 use Rattle.rules.specs.Tally.{report_length, over_limit, over_answer}
@@ -43,7 +42,7 @@ pub record CanRead (body runoff : List ℕ) : Type 0 where
 
 -- an accepted file and a possible board
 pub record CanJudge (f bd : List ℕ) : Type 0 where
-  pub accepted : check_of f ≡ AcceptedFile
+  pub accepted : check_of f ≡ Ok tt
   pub size : length bd ≡ board_length
   pub can : possible (basin_of f) bd ≡ true
 

@@ -1,14 +1,13 @@
 // The sheets of a year's body, and the look for runoff over its limit. The list runoff has a number to a station.
 ghost use Rattle.std.specs.Prelude.{◌≡◌, ◌≤◌, ◌<◌, length, drop};
 ghost use Rattle.rules.specs.Tally.{over_limit, over_answer};
-ghost use Rattle.answers.specs.Answers.{answer_of, settled};
+ghost use Rattle.answers.specs.Answers.{refusal_of};
 ghost use Rattle.sheets.specs.Sheets.{sheet_at};
 ghost use Rattle.years.specs.Years.{sheets_in};
 ghost use Rattle.years.specs.Runs.{first_over, CanRead};
 
-use answers::{Answer, tell};
 use month::refusals::judge_runoff;
-use rules::Verdict;
+use rules::Refusal;
 use sheets::decode;
 
 // The months of a year.
@@ -26,24 +25,21 @@ pub fn read_sheet(body: &[u8], k: usize, runoff: &mut [u32])
 }
 
 // The first row over its limit in the sheet of month k.
-fn judge_sheet(body: &[u8], k: usize, runoff: &mut [u32]) -> Answer
+fn judge_sheet(body: &[u8], k: usize, runoff: &mut [u32]) -> Result<(), Refusal>
     requires { CanRead body.now runoff.old × (k < 12) }
-    ensures { answer_of result ≡ settled (over_answer (over_limit (sheet_at (length runoff.old) body.now k))) }
+    ensures { refusal_of result ≡ over_answer (over_limit (sheet_at (length runoff.old) body.now k)) }
 {
     read_sheet(body, k, runoff);
     judge_runoff(runoff)
 }
 
 // That of the first sheet that has one, from month `first` on.
-pub fn judge_sheets(body: &[u8], first: usize, runoff: &mut [u32]) -> Answer
+pub fn judge_sheets(body: &[u8], first: usize, runoff: &mut [u32]) -> Result<(), Refusal>
     requires { CanRead body.now runoff.old × (first ≤ 12) }
-    ensures { answer_of result ≡ settled (first_over (drop first (sheets_in (length runoff.old) body.now))) }
+    ensures { refusal_of result ≡ first_over (drop first (sheets_in (length runoff.old) body.now)) }
 {
     for k in first..MONTHS {
-        let answer = judge_sheet(body, k, runoff);
-        if answer.number != 0 {
-            return answer;
-        }
+        judge_sheet(body, k, runoff)?;
     }
-    tell(Verdict::Accepted)
+    Ok(())
 }

@@ -3,29 +3,27 @@ ghost use Rattle.std.specs.Prelude.{◌≡◌, true, List, ℕ, length, drop};
 ghost use Rattle.places.specs.Board.{month_at};
 ghost use Rattle.rules.specs.Basin.{rows};
 ghost use Rattle.rules.specs.Years.{room_for_year};
-ghost use Rattle.rules.specs.declared.Verdict.TheVariants.{Accepted};
 ghost use Rattle.records.specs.Records.{basin_of};
 ghost use Rattle.records.specs.Bodies.{basin_in};
 ghost use Rattle.filecheck.specs.Check.{check_of};
 ghost use Rattle.sheets.specs.Sheets.{sheet_at};
 ghost use Rattle.boards.specs.Bodies.{Counted};
 ghost use Rattle.book.specs.Book.{body_size};
-ghost use Rattle.answers.specs.Answers.{answer_of, lent_refusal, settled};
+ghost use Rattle.answers.specs.Answers.{refusal_of, lent_refusal, count_answer};
 ghost use Rattle.month.specs.Month.{outcome_of};
 ghost use Rattle.month.specs.Run.{Ran};
 ghost use Rattle.years.specs.Years.{sheets_in, run_fits, run_refusal, YearMeets};
 ghost use Rattle.years.specs.Runs.{CanJudge, CanMonth, CanRest, RestRan, CanThrough, WentThrough, BodyMeets};
 
 use crate::judging::{MONTHS, judge_sheets, read_sheet};
-use answers::{Answer, tell};
 use boards::possible::is_possible;
-use book::find::{find_year, station_count, year_part};
+use book::find::{find_year, station_count};
 use closing::in_year;
 use month::run::run;
 use places::board::{BOARD_LENGTH, MONTH};
 use places::report::report_end;
 use records::bodies::Bodies;
-use rules::Verdict;
+use rules::Refusal;
 
 // Month k, whose sheet is within its limit. Answers how many rights are short.
 fn run_month(
@@ -65,8 +63,8 @@ fn run_rest(
     }
 }
 
-// The months from the board's on, where only the runoff can be turned down. No month is run before it is known that none will be refused: the
-// sheets are all there to look at, and a month that is run leaves a possible board.
+// The months from the board's on, where only the runoff can be turned down. Answers how many they are. No month is run before it is known that
+// none will be refused: the sheets are all there to look at, and a month that is run leaves a possible board.
 fn run_through(
     bodies: &Bodies<'_>,
     body: &[u8],
@@ -74,20 +72,14 @@ fn run_through(
     runoff: &mut [u32],
     board: &mut [u64],
     reports: &mut [u64],
-) -> Answer
+) -> Result<usize, Refusal>
     requires { CanThrough (basin_in bodies.now) body.now told runoff.old board.old reports.old }
-    ensures { WentThrough (basin_in bodies.now) (drop (month_at board.old) (sheets_in (length runoff.old) body.now)) board.old reports.old (outcome_of result board.new reports.new) }
+    ensures { WentThrough (basin_in bodies.now) (drop (month_at board.old) (sheets_in (length runoff.old) body.now)) board.old reports.old (outcome_of (count_answer result) board.new reports.new) }
 {
     let m = in_year(board[MONTH]);
-    let over = judge_sheets(body, m, runoff);
-    if over.number != 0 {
-        return over;
-    }
+    judge_sheets(body, m, runoff)?;
     run_rest(bodies, body, m, told, runoff, board, reports);
-    Answer {
-        number: 0,
-        place: (MONTHS - m) as u64,
-    }
+    Ok(MONTHS - m)
 }
 
 // Whether board and list have the lengths that the basin asks for: a board's places, and room for twelve reports.
@@ -104,29 +96,31 @@ fn run_fits(bodies: &Bodies<'_>, board: &[u64], reports: &[u64]) -> bool
 }
 
 // What is lent beside an accepted file: the lengths of board and list, then whether the board is possible.
-fn judge_lists(file: &[u8], board: &[u64], reports: &[u64]) -> Answer
-    requires { check_of file.now ≡ Accepted }
-    ensures { answer_of result ≡ settled (lent_refusal file.now (run_fits (basin_of file.now) board.now reports.now) board.now) }
+fn judge_lists(file: &[u8], board: &[u64], reports: &[u64]) -> Result<(), Refusal>
+    requires { check_of file.now ≡ Ok tt }
+    ensures { refusal_of result ≡ lent_refusal file.now (run_fits (basin_of file.now) board.now reports.now) board.now }
 {
     let bodies = Bodies::of(file);
     if !run_fits(&bodies, board, reports) {
-        return tell(Verdict::Lists);
+        return Err(Refusal::Lists);
     }
     if !is_possible(&bodies, board) {
-        return tell(Verdict::Board);
+        return Err(Refusal::Board);
     }
-    tell(Verdict::Accepted)
+    Ok(())
 }
 
 // A body of the book that fits an accepted file. The file is not checked again.
-fn run_body(file: &[u8], body: &[u8], board: &mut [u64], reports: &mut [u64]) -> Answer
-    requires { (check_of file.now ≡ Accepted) × (length body.now ≡ body_size (rows (basin_of file.now))) }
-    ensures { BodyMeets file.now (sheets_in (rows (basin_of file.now)) body.now) board.old reports.old (outcome_of result board.new reports.new) }
+fn run_body(
+    file: &[u8],
+    body: &[u8],
+    board: &mut [u64],
+    reports: &mut [u64],
+) -> Result<usize, Refusal>
+    requires { (check_of file.now ≡ Ok tt) × (length body.now ≡ body_size (rows (basin_of file.now))) }
+    ensures { BodyMeets file.now (sheets_in (rows (basin_of file.now)) body.now) board.old reports.old (outcome_of (count_answer result) board.new reports.new) }
 {
-    let on_lists = judge_lists(file, board, reports);
-    if on_lists.number != 0 {
-        return on_lists;
-    }
+    judge_lists(file, board, reports)?;
     let bodies = Bodies::of(file);
     let n = bodies.rows();
     let told = report_end(bodies.right_count(), n, bodies.reservoir_count());
@@ -135,32 +129,26 @@ fn run_body(file: &[u8], body: &[u8], board: &mut [u64], reports: &mut [u64]) ->
 }
 
 // What a run of the year from this board would be refused with, whatever the list that it is lent, if only that is long enough. Nothing is run.
-pub fn judge_year(file: &[u8], book: &[u8], year: u32, board: &[u64]) -> Answer
+pub fn judge_year(file: &[u8], book: &[u8], year: u32, board: &[u64]) -> Result<(), Refusal>
     requires { CanJudge file.now board.now }
-    ensures { (reports : List ℕ) → room_for_year (basin_of file.now) (length reports) ≡ true → answer_of result ≡ settled (run_refusal file.now book.now year board.now reports) }
+    ensures { (reports : List ℕ) → room_for_year (basin_of file.now) (length reports) ≡ true → refusal_of result ≡ run_refusal file.now book.now year board.now reports }
 {
-    let body = year_part(file, book, year);
-    if body.len() == 0 {
-        return find_year(file, book, year);
-    }
+    let body = find_year(file, book, year)?;
     let n = station_count(file);
     let mut runoff = [0u32; 64];
     judge_sheets(body, in_year(board[MONTH]), &mut runoff[..n])
 }
 
-// A year of the book on a board, from the board's month up to September. An empty part says that the year was not found.
+// A year of the book on a board, from the board's month up to September. Answers how many months were run.
 pub fn run_year(
     file: &[u8],
     book: &[u8],
     year: u32,
     board: &mut [u64],
     reports: &mut [u64],
-) -> Answer
-    ensures { YearMeets file.now book.now year board.old reports.old (outcome_of result board.new reports.new) }
+) -> Result<usize, Refusal>
+    ensures { YearMeets file.now book.now year board.old reports.old (outcome_of (count_answer result) board.new reports.new) }
 {
-    let body = year_part(file, book, year);
-    if body.len() == 0 {
-        return find_year(file, book, year);
-    }
+    let body = find_year(file, book, year)?;
     run_body(file, body, board, reports)
 }

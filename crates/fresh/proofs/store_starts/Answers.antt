@@ -17,9 +17,9 @@ loop-v-preserved c =
     let s = c.args in (
       search rules,
       omega arith,
-      length-set l.board c.storage_place.result c.wide32.result ∙ l.invariant.2,
+      length-set l.board c.storage_place.result c.from.result ∙ l.invariant.2,
       start-more s.reservoirs.now l.v s.board.now l.board l.invariant.3 _ _ c.storage_place.ensures
-          (c.wide32.ensures.0 ∙ ap (λ (r : ReservoirRecord). r.start) c.reservoir_at-reservoir.ensures) (omega (arith, c.requires.0, c.requires.1)),
+          (c.from.ensures ∙ ap (λ (r : ReservoirRecord). r.start) c.reservoir_at-reservoir.ensures) (omega (arith, c.requires.0, c.requires.1)),
     )
 
 pub returns : goal.returns

@@ -1,6 +1,7 @@
 -- `stock::stock` meets its contract. A possible board keeps the sums within bounds. Assumes nothing.
-use mathlib.Core.Path.{◌∙◌}
+use mathlib.Core.Path.{sym, ◌∙◌}
 use native.Mathlib.Omega.{arith}
+use borrow.Author.Rules.{rules}
 use Rattle.records.specs.Records.{basin_of}
 use Rattle.filecheck.proofs.Accepted.{accepted-facts, accepted-in}
 use Rattle.boards.proofs.Bodies.{counted, storage-told, due-told}
@@ -8,14 +9,14 @@ use Rattle.boards.proofs.Bounds.{bounded}
 use Rattle.stock.proofs.Answers.{stock-refused, stock-clear, stock-made}
 use Rattle.stock.proofs.stock.Goals as goal
 
-pub returns-then-answer-ne0 : goal.returns-then-answer-ne0
-returns-then-answer-ne0 c = stock-refused c.args.file.now c.args.board.now _ c.judge_board-answer.ensures c.if-answer-ne0.true
+pub returns-in_err-judge_board : goal.returns-in_err-judge_board
+returns-in_err-judge_board c = search (rules, stock-refused)
 
 pub storage_sum-requires : goal.storage_sum-requires
 storage_sum-requires c =
     let f = c.args.file.now in
     let b = c.args.board.now in
-    let k = stock-clear f b _ c.judge_board-answer.ensures (omega arith) in
+    let k = stock-clear f b (sym c.in_ok-judge_board.ensures) in
     let n = (counted c.of-bodies.result (accepted-in f _ c.of-bodies.ensures k.file-ok)).reservoirs_in in
     (omega (arith, n, c.reservoir_count.ensures), bounded (basin_of f) (accepted-facts f k.file-ok) b k.size k.board-ok)
 
@@ -23,7 +24,7 @@ pub due_sum-requires : goal.due_sum-requires
 due_sum-requires c =
     let f = c.args.file.now in
     let b = c.args.board.now in
-    let k = stock-clear f b _ c.judge_board-answer.ensures (omega arith) in
+    let k = stock-clear f b (sym c.in_ok-judge_board.ensures) in
     let n = (counted c.of-bodies.result (accepted-in f _ c.of-bodies.ensures k.file-ok)).rows_in in
     (omega (arith, n, c.rows.ensures), bounded (basin_of f) (accepted-facts f k.file-ok) b k.size k.board-ok)
 
@@ -31,7 +32,6 @@ pub returns : goal.returns
 returns c =
     let f = c.args.file.now in
     let b = c.args.board.now in
-    let k = stock-clear f b _ c.judge_board-answer.ensures (omega arith) in
-    stock-made f b k _ _
+    stock-made f b _ c.in_ok-judge_board.ensures
     (c.storage_sum.ensures ∙ storage-told f _ b c.of-bodies.ensures c.reservoir_count.ensures)
     (c.due_sum.ensures ∙ due-told f _ b c.of-bodies.ensures c.rows.ensures)

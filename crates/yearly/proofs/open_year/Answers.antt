@@ -1,10 +1,16 @@
 -- `yearly::open_year` meets its contract. Assumes nothing.
-use native.Mathlib.Omega.{arith}
+use mathlib.Core.Path.{refl}
 use Rattle.yearly.proofs.Opened.{year-refused, year-accepted}
 use Rattle.yearly.proofs.open_year.Goals as goal
 
-pub returns-then-answer-ne0 : goal.returns-then-answer-ne0
-returns-then-answer-ne0 c = year-refused c.args.book.now c.args.year c.args.listing.now _ c.judge_year-answer.ensures (λ z. omega (arith, z, c.if-answer-ne0.true)) _ c.refuse.ensures
+pub judge_year-requires : goal.judge_year-requires
+judge_year-requires c = c.requires.in_order
 
-pub returns-else-answer-ne0 : goal.returns-else-answer-ne0
-returns-else-answer-ne0 c = year-accepted c.args.book.now c.args.year c.args.listing.now _ c.judge_year-answer.ensures (omega arith) c.requires.going
+pub returns-in-Ok : goal.returns-in-Ok
+returns-in-Ok c = year-accepted c.args.book.now c.args.year c.args.listing.now c.in-Ok.ensures refl c.requires.going
+
+pub refuse-requires : goal.refuse-requires
+refuse-requires c = c.requires.room
+
+pub returns-in-Err : goal.returns-in-Err
+returns-in-Err c = year-refused c.args.book.now c.args.year c.args.listing.now c.in-Err.ensures _ refl _ c.refuse.ensures

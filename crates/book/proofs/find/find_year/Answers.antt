@@ -1,25 +1,29 @@
 -- `book::find::find_year` meets its contract. Assumes nothing.
-use mathlib.Core.Path.{◌∙◌, sym, subst}
-use Prim.Native.Nat.{ℕ}
+use mathlib.Core.Path.{sym}
 use native.Mathlib.Omega.{arith}
-use Rattle.book.specs.Book.{Kept}
-use Rattle.book.proofs.LookUp.{clear, book-first, year-missing, year-listed}
+use borrow.Author.Rules.{rules}
+use Rattle.filecheck.proofs.Accepted.{accepted-facts}
+use Rattle.book.proofs.LookUp.{file-refused, book-broken, kept, looked-up}
 use Rattle.book.proofs.find.find_year.Goals as goal
 
-pub returns-then-on_book-ne0 : goal.returns-then-on_book-ne0
-returns-then-on_book-ne0 c = let a = c.args in book-first a.file.now a.book.now a.year _ c.judge_book-on_book.ensures c.if-on_book-ne0.true
+pub returns-in_err-check : goal.returns-in_err-check
+returns-in_err-check c = record { refused = search (rules, file-refused); part = search rules }
 
-pub listed_body-body-requires : goal.listed_body-body-requires
-listed_body-body-requires c =
-    let a = c.args in
-    subst (λ (n : ℕ). Kept n a.book.now) (sym c.station_count.ensures) (clear a.file.now a.book.now _ c.judge_book-on_book.ensures (omega arith)).book
+pub book_ok-requires : goal.book_ok-requires
+book_ok-requires c = omega (arith, (accepted-facts c.args.file.now (sym c.in_ok-check.ensures)).few_rows)
 
-pub returns-then-body-eq0 : goal.returns-then-body-eq0
-returns-then-body-eq0 c =
+pub returns-then-not-book_ok : goal.returns-then-not-book_ok
+returns-then-not-book_ok c =
     let a = c.args in
-    c.tell.ensures ∙ year-missing a.file.now a.book.now a.year (clear a.file.now a.book.now _ c.judge_book-on_book.ensures (omega arith)) c.station_count.ensures c.listed_body-body.ensures c.if-body-eq0.true
+    record { refused = book-broken a.file.now a.book.now a.year (sym c.in_ok-check.ensures) (rw (← c.station_count-rows.ensures) (sym c.if-not-book_ok.ensures)); part = tt }
+
+pub listed_body-requires : goal.listed_body-requires
+listed_body-requires c =
+    let a = c.args in
+    rw c.station_count-rows.ensures (kept a.file.now a.book.now a.year (sym c.in_ok-check.ensures) (rw (← c.station_count-rows.ensures) (sym c.if-not-book_ok.ensures)))
 
 pub returns : goal.returns
 returns c =
     let a = c.args in
-    c.tell-2.ensures ∙ year-listed a.file.now a.book.now a.year (clear a.file.now a.book.now _ c.judge_book-on_book.ensures (omega arith)) c.station_count.ensures c.listed_body-body.ensures c.if-body-eq0.false
+    let k = looked-up a.file.now a.book.now a.year (sym c.in_ok-check.ensures) (rw (← c.station_count-rows.ensures) (sym c.if-not-book_ok.ensures)) c.listed_body.result (rw (← c.station_count-rows.ensures) c.listed_body.ensures) in
+    rw c.ok_or.ensures.value (record { refused = k.0; part = k.1 })

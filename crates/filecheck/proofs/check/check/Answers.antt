@@ -4,7 +4,7 @@ use mathlib.Core.Bool.{true}
 use mathlib.Core.List.{List}
 use Prim.Native.Nat.{ℕ, ◌≤◌, ◌<◌}
 use native.Mathlib.Omega.{arith}
-use Rattle.rules.specs.declared.Verdict.{Verdict}
+use Rattle.rules.specs.Answers.{Verdict}
 use Rattle.sections.specs.File.{layout_ok, section_of}
 use Rattle.records.specs.Records.{rows_of}
 use Rattle.filecheck.specs.Check.{bodies_verdict, check_of}

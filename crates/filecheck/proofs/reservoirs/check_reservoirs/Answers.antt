@@ -1,20 +1,27 @@
-use mathlib.Core.Path.{refl, ◌∙◌}
-use native.Mathlib.Omega.{arith}
-use Rattle.rules.specs.declared.Verdict.TheVariants.{Reservoir}
+-- `filecheck::reservoirs::check_reservoirs` meets its contract. Assumes nothing.
+use mathlib.Core.Path.{◌≡◌}
+use mathlib.Core.Bool.{true, false}
+use borrow.Author.Tests.{tests}
+use Rattle.std.proofs.Common.{rules}
+use Rattle.std.proofs.lemmas.Iterator.{first_from_Range}
+use Rattle.general.proofs.Search.{fault-found}
+use Rattle.records.specs.Records.{reservoir_count}
 use Rattle.filerules.specs.FileRules.{reservoir_ok}
-use Rattle.filecheck.specs.Check.{reservoirs_verdict}
-use Rattle.filecheck.proofs.Faults.{verdict-all, verdict-good, verdict-bad, verdict-done}
+use Rattle.filecheck.specs.Check.{fault_verdict, reservoirs_verdict}
 use Rattle.filecheck.proofs.reservoirs.check_reservoirs.Goals as goal
 
-pub loop-v-init : goal.loop-v-init
-unfolding reservoirs_verdict
-loop-v-init c = (refl, omega arith, verdict-all _ _ _)
+pub returns-in-Some : goal.returns-in-Some
+unfolding reservoirs_verdict fault_verdict
+returns-in-Some c =
+    let a = c.args in
+    let ok = reservoir_ok a.stations.now a.reservoirs.now in
+    let e = fault-found (reservoir_count a.reservoirs.now) ok c.find.result (first_from_Range _ _ _ _ (λ k. ok k ≡ false) (λ k. ok k ≡ true) c.find.ensures.ran (λ x q h. search (rules, tests)) (λ x q h. search (rules, tests))) in
+    rw (← e, c.in-Some.is)
 
-pub returns-then-not-reservoir_ok : goal.returns-then-not-reservoir_ok
-returns-then-not-reservoir_ok c = let a = c.args in verdict-bad Reservoir (reservoir_ok a.stations.now a.reservoirs.now) _ c.loop-v.v c.reservoir_ok.ensures (c.if-not-reservoir_ok.true) (omega arith) c.loop-v.invariant.2
-
-pub loop-v-preserved : goal.loop-v-preserved
-loop-v-preserved c = let a = c.args in (omega arith, omega arith, verdict-good Reservoir (reservoir_ok a.stations.now a.reservoirs.now) _ c.loop-v.v c.reservoir_ok.ensures (c.if-not-reservoir_ok.false) (omega arith) c.loop-v.invariant.2)
-
-pub returns : goal.returns
-returns c = let a = c.args in verdict-done Reservoir (reservoir_ok a.stations.now a.reservoirs.now) _ c.loop-v.v (omega arith) ∙ c.loop-v.invariant.2
+pub returns-in-None : goal.returns-in-None
+unfolding reservoirs_verdict fault_verdict
+returns-in-None c =
+    let a = c.args in
+    let ok = reservoir_ok a.stations.now a.reservoirs.now in
+    let e = fault-found (reservoir_count a.reservoirs.now) ok c.find.result (first_from_Range _ _ _ _ (λ k. ok k ≡ false) (λ k. ok k ≡ true) c.find.ensures.ran (λ x q h. search (rules, tests)) (λ x q h. search (rules, tests))) in
+    rw (← e, c.in-None.is)

@@ -1,11 +1,11 @@
 use mathlib.Core.Path.{sym, ap, ◌∙◌}
 use native.Mathlib.Omega.{arith}
-use Rattle.rules.specs.declared.Verdict.TheVariants.{Station}
+use Rattle.rules.specs.declared.Refusal.TheVariants.{Station}
 use Rattle.records.specs.Records.{rows_of}
 use Rattle.filerules.specs.FileRules.{station_ok}
 use Rattle.filecheck.specs.Check.{stations_verdict}
 use Rattle.filecheck.proofs.Faults.{verdict_from, verdict-all, verdict-on, verdict-here, verdict-last}
-use Rattle.filecheck.proofs.Found.{found_to, found_none, found-lost, found-small, found-more, found_all}
+use Rattle.filecheck.proofs.Found.{found_to, found_none, found-small, found-more, found_all}
 use Rattle.filerules.proofs.RowRules.{plain-fails, row-lost, row-good}
 use Rattle.filecheck.proofs.stations.check_stations.Goals as goal
 
@@ -16,13 +16,13 @@ loop-row-init c = (omega arith, omega arith, verdict-all _ _ _, c.requires.2 ∙
 pub returns-then-not-plain_ok : goal.returns-then-not-plain_ok
 returns-then-not-plain_ok c = let s = c.args.stations.now in let row = c.loop-row.row in record {
   value = verdict-here Station (station_ok s) (rows_of s) row (omega arith) (plain-fails s row (sym c.plain_ok.ensures ∙ c.if-not-plain_ok.true)) ∙ c.loop-row.invariant.2;
-  table_for = found-lost s _ row;
+  table_for = λ e. cc;
 }
 
 pub returns-in_default : goal.returns-in_default
 returns-in_default c = let s = c.args.stations.now in let row = c.loop-row.row in record {
   value = verdict-here Station (station_ok s) (rows_of s) row (omega arith) (row-lost s row (omega arith) _ c.row_below.ensures c.in_default.is) ∙ c.loop-row.invariant.2;
-  table_for = found-lost s _ row;
+  table_for = λ e. cc;
 }
 
 pub overflow_cast-below : goal.overflow_cast-below

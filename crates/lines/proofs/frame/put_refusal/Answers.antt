@@ -1,8 +1,19 @@
 -- `lines::frame::put_refusal` meets its contract: the word and two numbers. Assumes nothing.
-use Rattle.listing.specs.Listing.{space, refused_word, refusal_line}
+use mathlib.Core.Path.{subst}
+use mathlib.Core.List.{[], ◌∷◌, ◌++◌}
+use Rattle.rules.specs.Answers.{Answer}
+use Rattle.listing.specs.Listing.{space, decimal_text, line_of, refused_word, refusal_line}
+use Rattle.lines.specs.Texts.{Text}
+use Rattle.lines.specs.Putting.{Put}
 use Rattle.lines.proofs.Texts.{word-then}
 use Rattle.lines.proofs.frame.put_refusal.Goals as goal
 
-pub returns : goal.returns
+-- the line of an answer, by its two numbers
+lined : (a : Answer) {t u v : Text} → Put 8 (refused_word ++ (space ∷ [])) t u → Put 42 (line_of (decimal_text a.number ∷ decimal_text a.place ∷ [])) u v → Put 50 (refusal_line a) t v
 unfolding refusal_line
-returns c = word-then refused_word space c.push.ensures c.line.ensures
+lined a p q = word-then refused_word space p q
+
+pub returns : goal.returns
+returns c =
+    let n = c.from-number.result in
+    subst (λ (a : Answer). Put 50 (refusal_line a) c.args.text.now c.line.new.self) c.from-number.ensures (lined (record { number = n.number; place = n.place }) c.push.ensures c.line.ensures)

@@ -1,15 +1,16 @@
 -- `lister::Listing::open` meets its contract. Assumes nothing.
 use mathlib.Core.Path.{refl}
-use borrow.Author.Rules.{rules}
-use Rattle.general.proofs.Tests.{eqb-other}
+use Rattle.rules.specs.Answers.{told}
+use Rattle.answers.specs.Answers.{accepted}
+use Rattle.answers.proofs.Numbered.{numbered}
 use Rattle.lister.proofs.Begun.{refused-open, accepted-open}
-use Rattle.lister.proofs.Listing.open.Goals.{then-not-more, else-not-more}
+use Rattle.lister.proofs.Listing.open.Goals.{in-Ok, in-Err}
 use Rattle.lister.proofs.Listing.open.Goals as goal
 
 pub returns-clause-opened : goal.returns-clause-opened
 returns-clause-opened c =
     let s = c.args in
-    elim c.if-not-more.branch [
-      | then-not-more w ↦ refused-open s.file.now s.board.now _ c.requires.0 _ c.fresh-answer.ensures c.over-text.ensures.empty c.over-text.ensures.room c.put_header.ensures _ refl refl c.fresh-answer.auto.board s.report.now refl refl w.if-not-more.true (eqb-other _ 0 w.if-not-more.true) (rw w.text-is w.put_refusal.ensures)
-      | else-not-more w ↦ accepted-open s.file.now s.board.now _ c.requires.0 _ c.fresh-answer.ensures c.over-text.ensures.empty c.over-text.ensures.room c.put_header.ensures _ refl refl c.fresh-answer.auto.board s.report.now refl refl (search rules) (search rules) w.text-is
+    elim c.match-fresh.branch [
+      | in-Ok w ↦ accepted-open s.file.now s.board.now _ c.requires.0 accepted w.in-Ok.ensures c.over-text.ensures.empty c.over-text.ensures.room c.put_header.ensures _ refl refl c.fresh.auto.board s.report.now refl refl refl w.more-is w.text-is
+      | in-Err w ↦ refused-open s.file.now s.board.now _ c.requires.0 (told w.in-Err.refusal) w.in-Err.ensures c.over-text.ensures.empty c.over-text.ensures.room c.put_header.ensures _ refl refl c.fresh.auto.board s.report.now refl refl (numbered _) w.more-is (rw w.text-is w.put_refusal.ensures)
     ]

@@ -1,23 +1,18 @@
 -- `month::run::run_sheet` meets its contract. Assumes nothing.
-use native.Mathlib.Omega.{arith}
+use borrow.Author.Rules.{rules}
 use Rattle.records.specs.Bodies.{basin_in}
 use Rattle.month.proofs.Going.{stays, may-run, goes}
 use Rattle.month.proofs.run.run_sheet.Goals as goal
 
-pub judge_runoff-answer-requires : goal.judge_runoff-answer-requires
-judge_runoff-answer-requires c = omega (arith, c.requires.sheet, c.requires.accepted.few_rows)
+pub returns-in_err-judge_runoff : goal.returns-in_err-judge_runoff
+returns-in_err-judge_runoff c = search (rules, stays)
 
-pub returns-then-answer-ne0 : goal.returns-then-answer-ne0
-returns-then-answer-ne0 c =
+pub run-requires : goal.run-requires
+run-requires c =
     let s = c.args in
-    stays (basin_in s.bodies.now) s.runoff.now s.board.now s.report.now c.requires _ c.judge_runoff-answer.ensures c.if-answer-ne0.true
-
-pub run-shorts-requires : goal.run-shorts-requires
-run-shorts-requires c =
-    let s = c.args in
-    may-run (basin_in s.bodies.now) s.runoff.now s.board.now s.report.now c.requires _ c.judge_runoff-answer.ensures (omega arith)
+    may-run (basin_in s.bodies.now) s.runoff.now s.board.now s.report.now c.requires c.in_ok-judge_runoff.ensures
 
 pub returns : goal.returns
 returns c =
     let s = c.args in
-    goes (basin_in s.bodies.now) s.runoff.now s.board.now s.report.now c.requires _ c.judge_runoff-answer.ensures (omega arith) _ _ _ c.run-shorts.ensures
+    goes (basin_in s.bodies.now) s.runoff.now s.board.now s.report.now c.requires c.in_ok-judge_runoff.ensures _ _ _ c.run.ensures

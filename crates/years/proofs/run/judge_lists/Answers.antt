@@ -3,7 +3,7 @@ use mathlib.Core.Path.{sym, ◌∙◌}
 use Rattle.records.specs.Records.{basin_of}
 use Rattle.filecheck.proofs.Accepted.{accepted-in}
 use Rattle.boards.proofs.Bodies.{counted, sized, possible-told}
-use Rattle.answers.proofs.Answers.{lent-unfit, lent-impossible, lent-good}
+use Rattle.answers.proofs.Answers.{lent-unfit, lent-impossible, lent_none}
 use Rattle.years.specs.Years.{run_fits}
 use Rattle.years.proofs.Runs.{run-fits-told, run-fits-parts}
 use Rattle.years.proofs.run.judge_lists.Goals as goal
@@ -18,7 +18,7 @@ returns-then-not-run_fits c =
     let s = c.args in
     let f = s.file.now in
     let l = run-fits-told f _ s.board.now s.reports.now c.of-bodies.ensures c.run_fits.ensures in
-    c.tell.ensures ∙ lent-unfit f (run_fits (basin_of f) s.board.now s.reports.now) s.board.now c.requires (sym l ∙ c.if-not-run_fits.true)
+    lent-unfit f (run_fits (basin_of f) s.board.now s.reports.now) s.board.now c.requires (sym l ∙ c.if-not-run_fits.true)
 
 pub is_possible-requires : goal.is_possible-requires
 is_possible-requires c =
@@ -34,7 +34,7 @@ returns-then-not-is_possible c =
     let f = s.file.now in
     let l = run-fits-told f _ s.board.now s.reports.now c.of-bodies.ensures c.run_fits.ensures in
     let p = possible-told f _ s.board.now c.of-bodies.ensures c.is_possible.ensures in
-    c.tell-then-not-is_possible.ensures ∙ lent-impossible f (run_fits (basin_of f) s.board.now s.reports.now) s.board.now c.requires (sym l ∙ c.if-not-run_fits.false) (sym p ∙ c.if-not-is_possible.true)
+    lent-impossible f (run_fits (basin_of f) s.board.now s.reports.now) s.board.now c.requires (sym l ∙ c.if-not-run_fits.false) (sym p ∙ c.if-not-is_possible.true)
 
 pub returns : goal.returns
 returns c =
@@ -42,4 +42,5 @@ returns c =
     let f = s.file.now in
     let l = run-fits-told f _ s.board.now s.reports.now c.of-bodies.ensures c.run_fits.ensures in
     let p = possible-told f _ s.board.now c.of-bodies.ensures c.is_possible.ensures in
-    c.tell-2.ensures ∙ lent-good f (run_fits (basin_of f) s.board.now s.reports.now) s.board.now c.requires (sym l ∙ c.if-not-run_fits.false) (sym p ∙ c.if-not-is_possible.false)
+    sym (lent_none f (run_fits (basin_of f) s.board.now s.reports.now) s.board.now
+    (record { file-ok = c.requires; lists-ok = sym l ∙ c.if-not-run_fits.false; board-ok = sym p ∙ c.if-not-is_possible.false }))

@@ -5,21 +5,20 @@ use Prim.Native.Nat.{ℕ}
 use native.Mathlib.Omega.{arith}
 use lib.ListN.{length}
 use lib.Seq.{length-take-le}
+use Rattle.std.proofs.lemmas.Result.{err_from_is_err_and}
 use Rattle.records.specs.Records.{basin_of}
 use Rattle.filecheck.proofs.Accepted.{accepted-facts}
 use Rattle.boards.proofs.Bounds.{month-most}
-use Rattle.book.proofs.LookUp.{found, not_found}
+use Rattle.book.proofs.LookUp.{found_none}
 use Rattle.years.proofs.Sheets.{read_by}
 use Rattle.years.proofs.Runs.{judged-missing, judged-found}
 use Rattle.years.proofs.run.judge_year.Goals as goal
 
-pub returns-then-body-eq0 : goal.returns-then-body-eq0
-returns-then-body-eq0 c =
+pub returns-in_err-body : goal.returns-in_err-body
+returns-in_err-body c =
     let s = c.args in
-    let f = s.file.now in
-    let k = s.book.now in
-    let e = ap (λ (x : List ℕ). length x) c.year_part-body.ensures in
-    λ old room. judged-missing f k s.year s.board.now old _ (not_found f k s.year (sym e ∙ c.if-body-eq0.true) _ c.find_year.ensures).1
+    let p = err_from_is_err_and c.from_residual.result c.from_residual.ensures.1 in
+    λ old room. rw (p.1, p.2) (judged-missing s.file.now s.book.now s.year s.board.now old _ c.in_err-body.ensures.refused)
 
 pub in_year-requires : goal.in_year-requires
 in_year-requires c = let s = c.args in month-most (basin_of s.file.now) s.board.now c.requires.can
@@ -34,8 +33,8 @@ pub judge_sheets-requires : goal.judge_sheets-requires
 judge_sheets-requires c =
     let s = c.args in
     let f = s.file.now in
-    let e = ap (λ (x : List ℕ). length x) c.year_part-body.ensures in
-    let g = found f s.book.now s.year (λ z. c.if-body-eq0.false (e ∙ z)) in
+    let e = ap (λ (x : List ℕ). length x) c.in_ok-body.ensures.part in
+    let g = found_none f s.book.now s.year (sym c.in_ok-body.ensures.refused) in
     let few = (accepted-facts f c.requires.accepted).few_rows in (
       read_by c.station_count-n.result (length-take-le _ _ (omega (arith, c.station_count-n.ensures, few))) (omega (arith, c.station_count-n.ensures, few)) (omega (arith, e, g.size, c.station_count-n.ensures)),
       omega (arith, c.in_year.ensures, month-most (basin_of f) s.board.now c.requires.can),
@@ -45,7 +44,5 @@ pub returns : goal.returns
 returns c =
     let s = c.args in
     let f = s.file.now in
-    let k = s.book.now in
-    let e = ap (λ (x : List ℕ). length x) c.year_part-body.ensures in
-    let g = found f k s.year (λ z. c.if-body-eq0.false (e ∙ z)) in
-    λ old room. judged-found f k s.year s.board.now old c.requires room _ _ c.year_part-body.ensures g.refused (length-take-le c.station_count-n.result _ (omega (arith, c.station_count-n.ensures, (accepted-facts f c.requires.accepted).few_rows)) ∙ c.station_count-n.ensures) c.in_year.ensures c.judge_sheets.ensures
+    λ old room. judged-found f s.book.now s.year s.board.now old c.requires room _ c.in_ok-body.ensures.part (sym c.in_ok-body.ensures.refused)
+    (length-take-le c.station_count-n.result _ (omega (arith, c.station_count-n.ensures, (accepted-facts f c.requires.accepted).few_rows)) ∙ c.station_count-n.ensures) c.in_year.ensures c.judge_sheets.ensures

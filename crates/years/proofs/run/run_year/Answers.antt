@@ -3,30 +3,24 @@ use mathlib.Core.Path.{sym, ap, ◌∙◌}
 use mathlib.Core.List.{List}
 use Prim.Native.Nat.{ℕ}
 use lib.ListN.{length}
-use Rattle.book.proofs.LookUp.{found, not_found}
+use Rattle.std.proofs.lemmas.Result.{err_from_is_err_and}
+use Rattle.book.proofs.LookUp.{found_none}
 use Rattle.years.proofs.Runs.{year-refused, year-made}
 use Rattle.years.proofs.run.run_year.Goals as goal
 
-pub returns-then-body-eq0 : goal.returns-then-body-eq0
-returns-then-body-eq0 c =
+pub returns-in_err-body : goal.returns-in_err-body
+returns-in_err-body c =
     let s = c.args in
-    let f = s.file.now in
-    let k = s.book.now in
-    let e = ap (λ (x : List ℕ). length x) c.year_part-body.ensures in
-    year-refused f k s.year s.board.now s.reports.now _ (not_found f k s.year (sym e ∙ c.if-body-eq0.true) _ c.find_year.ensures).1
+    let p = err_from_is_err_and c.from_residual.result c.from_residual.ensures.1 in
+    rw (p.1, p.2) (year-refused s.file.now s.book.now s.year s.board.now s.reports.now _ c.in_err-body.ensures.refused)
 
 pub run_body-requires : goal.run_body-requires
 run_body-requires c =
     let s = c.args in
-    let e = ap (λ (x : List ℕ). length x) c.year_part-body.ensures in
-    let g = found s.file.now s.book.now s.year (λ z. c.if-body-eq0.false (e ∙ z)) in
-    (g.file, e ∙ g.size)
+    let g = found_none s.file.now s.book.now s.year (sym c.in_ok-body.ensures.refused) in
+    (g.file, ap (λ (x : List ℕ). length x) c.in_ok-body.ensures.part ∙ g.size)
 
 pub returns : goal.returns
 returns c =
     let s = c.args in
-    let f = s.file.now in
-    let k = s.book.now in
-    let e = ap (λ (x : List ℕ). length x) c.year_part-body.ensures in
-    let g = found f k s.year (λ z. c.if-body-eq0.false (e ∙ z)) in
-    year-made f k s.year s.board.now s.reports.now _ _ c.year_part-body.ensures g.refused c.run_body.ensures
+    year-made s.file.now s.book.now s.year s.board.now s.reports.now _ _ c.in_ok-body.ensures.part (sym c.in_ok-body.ensures.refused) c.run_body.ensures
