@@ -17,8 +17,8 @@ use river::River;
 
 // The station of reservoir v.
 fn reservoir_station(setting: &Setting, v: usize) -> u64
-    requires { let s = setting.now in (v < reservoir_count s.bodies.reservoirs.now) × (home_row s.bodies.reservoirs.now v < rows_of s.bodies.stations.now) }
-    ensures { result ≡ reservoir_station setting.now.bodies.stations.now setting.now.bodies.reservoirs.now v }
+    requires { let s = setting.now in (v < reservoir_count s.bodies.now.reservoirs.now) × (home_row s.bodies.now.reservoirs.now v < rows_of s.bodies.now.stations.now) }
+    ensures { result ≡ reservoir_station setting.now.bodies.now.stations.now setting.now.bodies.now.reservoirs.now v }
 {
     let reservoir = reservoir_at(setting.bodies.reservoirs, v);
     u64::from(station_number(setting.bodies.stations, usize::from(reservoir.row)))
@@ -27,8 +27,8 @@ fn reservoir_station(setting: &Setting, v: usize) -> u64
 // The station that a reason names; that of the right's reservoir v where its storage gave out.
 #[tactic(auto, unfolding(crate::specs::State::named_by))]
 fn name(setting: &Setting, v: usize, reason: Reason) -> u64
-    requires { CanName setting.now.bodies.stations.now setting.now.bodies.reservoirs.now v reason }
-    ensures { result ≡ named_by (reservoir_station setting.now.bodies.stations.now setting.now.bodies.reservoirs.now v) reason }
+    requires { CanName setting.now.bodies.now.stations.now setting.now.bodies.now.reservoirs.now v reason }
+    ensures { result ≡ named_by (reservoir_station setting.now.bodies.now.stations.now setting.now.bodies.now.reservoirs.now v) reason }
 {
     match reason {
         Reason::Met => 0,
@@ -61,8 +61,8 @@ fn serve_line(
     board: &mut [u64],
     report: &mut [u64],
 ) -> u64
-    requires { let s = setting.now in CanLine s.bodies.stations.now s.below s.bodies.reservoirs.now s.sums s.bodies.rights.now turn.right turn.month river.old.flow river.old.available short.old board.old report.old }
-    ensures { let s = setting.now in (b : Basin) → SettingOf b s.bodies.stations.now s.below s.bodies.reservoirs.now s.sums s.bodies.rights.now → LineServed b s.bodies.rights.now turn.right turn.month river.old.flow river.old.available short.old board.old report.old river.new.flow river.new.available short.new board.new report.new result }
+    requires { let s = setting.now in CanLine s.bodies.now.stations.now s.below.now s.bodies.now.reservoirs.now s.sums.now s.bodies.now.rights.now turn.right turn.month river.old.flow river.old.available short.old board.old report.old }
+    ensures { let s = setting.now in (b : Basin) → SettingOf b s.bodies.now.stations.now s.below.now s.bodies.now.reservoirs.now s.sums.now s.bodies.now.rights.now → LineServed b s.bodies.now.rights.now turn.right turn.month river.old.flow river.old.available short.old board.old report.old river.new.flow river.new.available short.new board.new report.new result }
 {
     let i = turn.right;
     let right = right_at(setting.bodies.rights, i);
@@ -81,8 +81,8 @@ pub fn serve_all(
     board: &mut [u64],
     report: &mut [u64],
 ) -> u64
-    requires { let s = setting.now in CanServe s.bodies.stations.now s.below s.bodies.reservoirs.now s.sums s.bodies.rights.now m river.old.flow river.old.available short.old board.old report.old }
-    ensures { let s = setting.now in (b : Basin) → SettingOf b s.bodies.stations.now s.below s.bodies.reservoirs.now s.sums s.bodies.rights.now → Served b m river.old.flow river.old.available short.old board.old report.old river.new.flow river.new.available short.new board.new report.new result }
+    requires { let s = setting.now in CanServe s.bodies.now.stations.now s.below.now s.bodies.now.reservoirs.now s.sums.now s.bodies.now.rights.now m river.old.flow river.old.available short.old board.old report.old }
+    ensures { let s = setting.now in (b : Basin) → SettingOf b s.bodies.now.stations.now s.below.now s.bodies.now.reservoirs.now s.sums.now s.bodies.now.rights.now → Served b m river.old.flow river.old.available short.old board.old report.old river.new.flow river.new.available short.new board.new report.new result }
 {
     let n = setting.bodies.right_count();
     let mut deep: u64 = 0;

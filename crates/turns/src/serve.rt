@@ -47,8 +47,8 @@ fn finish(
     short: &mut [bool; 64],
     board: &mut [u64],
 ) -> Grant
-    requires { let s = setting.now in CanFinish s.below s.sums s.bodies.rights.now i right share river.old.flow river.old.available short.old board.old }
-    ensures { let s = setting.now in Finished s.below s.sums s.bodies.rights.now i right share river.old.flow river.old.available short.old board.old river.new.flow river.new.available short.new board.new result }
+    requires { let s = setting.now in CanFinish s.below.now s.sums.now s.bodies.now.rights.now i right share river.old.flow river.old.available short.old board.old }
+    ensures { let s = setting.now in Finished s.below.now s.sums.now s.bodies.now.rights.now i right share river.old.flow river.old.available short.old board.old river.new.flow river.new.available short.new board.new result }
 {
     let part = share.from_river;
     let stored = share.from_storage;
@@ -62,8 +62,8 @@ fn finish(
         amount: rest,
     };
     let deep = give_returns(
-        &setting.below,
-        &setting.sums,
+        setting.below,
+        setting.sums,
         setting.bodies.rights,
         back,
         river,
@@ -95,11 +95,11 @@ pub fn serve_right(
     short: &mut [bool; 64],
     board: &mut [u64],
 ) -> Grant
-    requires { let s = setting.now in Ready s.bodies.stations.now s.below s.bodies.reservoirs.now s.sums s.bodies.rights.now turn.right turn.month river.old.flow river.old.available short.old board.old }
-    ensures { let s = setting.now in (b : Basin) → SettingOf b s.bodies.stations.now s.below s.bodies.reservoirs.now s.sums s.bodies.rights.now → Turned b s.bodies.rights.now turn.right turn.month river.old.flow river.old.available short.old board.old river.new.flow river.new.available short.new board.new result }
+    requires { let s = setting.now in Ready s.bodies.now.stations.now s.below.now s.bodies.now.reservoirs.now s.sums.now s.bodies.now.rights.now turn.right turn.month river.old.flow river.old.available short.old board.old }
+    ensures { let s = setting.now in (b : Basin) → SettingOf b s.bodies.now.stations.now s.below.now s.bodies.now.reservoirs.now s.sums.now s.bodies.now.rights.now → Turned b s.bodies.now.rights.now turn.right turn.month river.old.flow river.old.available short.old board.old river.new.flow river.new.available short.new board.new result }
 {
     let i = turn.right;
-    let below = &setting.below;
+    let below = setting.below;
     let reservoirs = setting.bodies.reservoirs;
     let right = right_at(setting.bodies.rights, i);
     let kind = right.kind;

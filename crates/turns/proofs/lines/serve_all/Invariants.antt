@@ -6,4 +6,4 @@ use Rattle.turns.proofs.lines.serve_all.Given as goal
 
 abbrev pub invariant-loop-i : goal.invariant-loop-i
 invariant-loop-i l =
-    (b : Basin) → SettingOf b l.setting.bodies.stations.now l.setting.below l.setting.bodies.reservoirs.now l.setting.sums l.setting.bodies.rights.now → ServedTo b l.m l.i l.initial.river.flow l.initial.river.available l.initial.short l.initial.board l.initial.report l.river.flow l.river.available l.short l.board l.report l.deep
+    (b : Basin) → SettingOf b l.setting.bodies.now.stations.now l.setting.below.now l.setting.bodies.now.reservoirs.now l.setting.sums.now l.setting.bodies.now.rights.now → ServedTo b l.m l.i l.initial.river.flow l.initial.river.available l.initial.short l.initial.board l.initial.report l.river.flow l.river.available l.short l.board l.report l.deep

@@ -14,7 +14,7 @@ use Rattle.turns.proofs.lines.serve_line.Goals as goal
 
 pub name-station-requires : goal.name-station-requires
 name-station-requires c =
-    let s = c.args.setting.now.bodies in
+    let s = c.args.setting.now.bodies.now in
     let q = c.requires.ready in
     let t = the-turn q in
     let turned = c.serve_right-grant.ensures q.basin q.setting in
@@ -26,7 +26,7 @@ put_line-requires c = (place-most (the-turn c.requires.ready).right, c.requires.
 
 pub returns : goal.returns
 returns c =
-    let s = c.args.setting.now.bodies in
+    let s = c.args.setting.now.bodies.now in
     let q = c.requires.ready in
     let made = c.serve_right-grant.result in
     let e = c.from.ensures ∙ ap (λ (x : RightRecord). x.reservoir) c.right_at-right.ensures in
