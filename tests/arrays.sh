@@ -10,7 +10,7 @@ cd "$(dirname "$0")/.."
 code() {
     sed -E 's|//.*||; /^ *(ghost|requires|ensures|invariant|decreases) /d; s/b"[^"]*"//g; s/#!?\[[^]]*\]//g; s/^ *\*[a-z_]+ = //' "$1" |
         sed -E "s/-> \[.*//; s/&('[a-z]+ )?(mut )?\[+(bool|[iu][0-9]+|usize)(; [0-9]+\])*\]?//g" |
-        sed -E 's/([A-Za-z0-9_])\[[^]]*\]/\1/g; s/\[\]//g; s/&mut \*//g'
+        sed -E 's/([A-Za-z0-9_])\[[^]]*\]/\1/g; s/\[\]//g; s/&(mut )?\*//g'
 }
 # A written array or a copy, with the name that it is given.
 array='([a-z_]+(:| =) )?(\[[^]]*\]?(; [0-9]+\])?|\*[a-z_]+)'

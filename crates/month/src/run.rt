@@ -21,19 +21,17 @@ pub fn run(bodies: &Bodies<'_>, runoff: &[u32], board: &mut [u64], report: &mut 
     requires { CanRun (basin_in bodies.now) runoff.now board.old report.old }
     ensures { Ran (basin_in bodies.now) runoff.now board.old report.old board.new report.new result }
 {
-    let below = rows_below(bodies.stations);
-    let sums = decode_patterns(bodies.patterns);
     let setting = Setting {
         bodies: &*bodies,
-        below: &below,
-        sums: &sums,
+        below: &rows_below(bodies.stations),
+        sums: &decode_patterns(bodies.patterns),
     };
     let mut river = River {
         flow: [0; 64],
         available: [0; 64],
     };
     let mut short = [false; 64];
-    begin(&below, runoff, &mut river, board);
+    begin(setting.below, runoff, &mut river, board);
     let m = in_year(board[MONTH]);
     let deep = serve_all(&setting, m, &mut river, &mut short, board, report);
     end(
