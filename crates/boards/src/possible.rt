@@ -26,6 +26,7 @@ fn storage_most(reservoirs: &[u8], v: usize) -> u64
     u64::from(le32(reservoirs, 68 * v + 4))
 }
 
+#[tactic(auto, unfolding(crate::specs::Bodies::storages_ok))]
 fn storages_ok(reservoirs: &[u8], board: &[u64]) -> bool
     requires { length board.now ≡ board_length }
     ensures { result ≡ storages_ok reservoirs.now board.now }
@@ -48,6 +49,7 @@ fn taken_most(rights: &[u8], i: usize) -> u64
 }
 
 // Each right within its limit.
+#[tactic(auto, unfolding(crate::specs::Bodies::held_ok))]
 fn held_ok(rights: &[u8], board: &[u64]) -> bool
     requires { (length board.now ≡ board_length) × (right_count rights.now ≤ 256) }
     ensures { result ≡ held_ok rights.now board.now }
@@ -90,6 +92,7 @@ fn due_most(k: usize) -> u64
     (11 - k as u64) * 256000000000
 }
 
+#[tactic(auto, unfolding(crate::specs::Bodies::row_ok))]
 fn row_ok(board: &[u64], w: usize) -> bool
     requires { (length board.now ≡ board_length) × (w < 64) }
     ensures { result ≡ row_ok board.now w }

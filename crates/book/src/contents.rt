@@ -12,6 +12,7 @@ const FIRST_YEAR: u32 = 1800;
 
 const LAST_YEAR: u32 = 2200;
 
+#[tactic(auto, unfolding(crate::specs::Book::year_count))]
 fn year_count(book: &[u8]) -> usize
     requires { 4 ≤ length book.now }
     ensures { result ≡ year_count book.now }
@@ -27,6 +28,7 @@ fn entry_at(i: usize) -> usize
     4 + 8 * i
 }
 
+#[tactic(auto, unfolding(crate::specs::Book::year_at))]
 fn year_at(book: &[u8], i: usize) -> u32
     requires { (i < most_years) × (entry_at (i + 1) ≤ length book.now) }
     ensures { result ≡ year_at book.now i }
@@ -34,6 +36,7 @@ fn year_at(book: &[u8], i: usize) -> u32
     le32(book, entry_at(i))
 }
 
+#[tactic(auto, unfolding(crate::specs::Book::offset_at))]
 fn offset_at(book: &[u8], i: usize) -> usize
     requires { (i < most_years) × (entry_at (i + 1) ≤ length book.now) }
     ensures { result ≡ offset_at book.now i }
@@ -57,6 +60,7 @@ fn packed_at(rows: usize, book: &[u8], i: usize) -> usize
     entry_at(year_count(book)) + body_size(rows) * i
 }
 
+#[tactic(auto, unfolding(crate::specs::Book::rises))]
 fn is_rising(book: &[u8], i: usize) -> bool
     requires { (i < most_years) × (entry_at (i + 1) ≤ length book.now) }
     ensures { result ≡ rises book.now i }

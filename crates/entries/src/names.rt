@@ -19,6 +19,7 @@ pub fn fixed(name: &[u8]) -> [u8; 8]
 
 // Whether eight bytes are the name. All are looked at, so that the compiler compares them as one number; `==` leaves at the first that differs
 // and takes twice as long.
+#[tactic(auto, unfolding(crate::specs::Entries::same_name))]
 pub fn same_name(part: &[u8], name: [u8; 8]) -> bool
     requires { length part.now ≡ name_length }
     ensures { result ≡ same_name part.now name }
@@ -27,6 +28,7 @@ pub fn same_name(part: &[u8], name: [u8; 8]) -> bool
 }
 
 // Whether the entry bears the name.
+#[tactic(auto, unfolding(crate::specs::Entries::is_named, crate::specs::Entries::name_at))]
 fn is_named(store: &[u8], entry: usize, name: [u8; 8]) -> bool
     requires { (length store.now ≡ store_length) × (entry < entry_count) }
     ensures { result ≡ is_named store.now name entry }
@@ -45,6 +47,7 @@ pub fn find(store: &[u8], name: [u8; 8]) -> Option<usize>
 }
 
 // The entry that a save writes: the first with the name, else the first empty one.
+#[tactic(auto, unfolding(crate::specs::Entries::place_for, crate::specs::Entries::or_first))]
 pub fn place_for(store: &[u8], name: [u8; 8]) -> Option<usize>
     requires { length store.now ≡ store_length }
     ensures { result ≡ place_for store.now name }

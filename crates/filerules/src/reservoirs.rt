@@ -8,6 +8,7 @@ use numbers::{all_below, in_range};
 use records::reservoirs::{content_at, depth_at, reservoir_at};
 
 // Whether the storages of the four pairs rise strictly.
+#[tactic(auto, unfolding(crate::specs::FileRules::contents_rise))]
 fn contents_rise(reservoirs: &[u8], v: usize) -> bool
     requires { v < reservoir_count reservoirs.now }
     ensures { result ≡ contents_rise reservoirs.now v }
@@ -17,6 +18,7 @@ fn contents_rise(reservoirs: &[u8], v: usize) -> bool
     })
 }
 
+#[tactic(auto, unfolding(crate::specs::FileRules::areas_ok, records::specs::Records::area_at, numbers::specs::Bytes::all_at_most))]
 fn areas_ok(reservoirs: &[u8], v: usize) -> bool
     requires { v < reservoir_count reservoirs.now }
     ensures { result ≡ areas_ok reservoirs.now v }
@@ -24,6 +26,7 @@ fn areas_ok(reservoirs: &[u8], v: usize) -> bool
     all_at_most(reservoirs, 68 * v + 16, 8, 4, 1000000)
 }
 
+#[tactic(auto, unfolding(crate::specs::FileRules::depths_ok))]
 fn depths_ok(reservoirs: &[u8], v: usize) -> bool
     requires { v < reservoir_count reservoirs.now }
     ensures { result ≡ depths_ok reservoirs.now v }

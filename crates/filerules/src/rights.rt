@@ -18,6 +18,7 @@ fn date_ok(date: u32) -> bool
 }
 
 // Whether a right's kind is one of the four. A record has a kind whatever its byte is, so that the byte itself is asked.
+#[tactic(auto, unfolding(crate::specs::FileRules::kind_known))]
 fn kind_known(rights: &[u8], i: usize) -> bool
     requires { i < right_count rights.now }
     ensures { result ≡ kind_known rights.now i }
@@ -25,6 +26,7 @@ fn kind_known(rights: &[u8], i: usize) -> bool
     in_range(1, u32::from(kind_byte(rights, i)), 4)
 }
 
+#[tactic(auto, unfolding(crate::specs::FileRules::limit_ok))]
 fn limit_ok(kind: Kind, limit: u32) -> bool
     ensures { result ≡ limit_ok kind limit }
 {
@@ -62,6 +64,7 @@ fn at_reservoir(reservoirs: &[u8], v: usize, row: u8) -> bool
 }
 
 // The reservoir that the right names, and where the right stands to it. Only a project right needs a walk down the river.
+#[tactic(auto, unfolding(crate::specs::FileRules::source_ok))]
 fn source_ok(below: &[u8; 64], reservoirs: &[u8], r: RightRecord) -> bool
     requires { ReservoirsOn below.now reservoirs.now }
     ensures { (st : List ℕ) → TableFor st below.now → GoodRows st reservoirs.now → result ≡ source_ok r.kind st reservoirs.now r }
@@ -82,6 +85,7 @@ fn point_ok(n: usize, from: usize, row: usize, percent: u8) -> bool
 }
 
 // Whether the first pairs, as many as there are points, are good return points.
+#[tactic(auto, unfolding(crate::specs::FileRules::each_point_ok))]
 fn each_point_ok(n: usize, from: usize, rights: &[u8], i: usize, points: usize) -> bool
     requires { (i < right_count rights.now) × (points ≤ 4) }
     ensures { result ≡ each_point_ok n from rights.now i points }
@@ -93,6 +97,7 @@ fn each_point_ok(n: usize, from: usize, rights: &[u8], i: usize, points: usize) 
 }
 
 // The sum of the percents of the return points.
+#[tactic(auto, unfolding(numbers::specs::Bytes::byte_sum, records::specs::Records::return_percent))]
 fn percent_sum(rights: &[u8], i: usize, points: usize) -> u32
     requires { (i < right_count rights.now) × (points ≤ 4) }
     ensures { result ≡ sum_to points (return_percent rights.now i) }
@@ -146,6 +151,7 @@ fn unused_ok(rights: &[u8], i: usize, points: usize) -> bool
     })
 }
 
+#[tactic(auto, unfolding(crate::specs::FileRules::amounts_ok, records::specs::Records::amount_at, numbers::specs::Bytes::all_at_most))]
 fn amounts_ok(rights: &[u8], i: usize) -> bool
     requires { i < right_count rights.now }
     ensures { result ≡ amounts_ok rights.now i }
@@ -161,6 +167,7 @@ fn is_earlier(a: RightRecord, b: RightRecord) -> bool
 }
 
 // The first right has none before it.
+#[tactic(auto, unfolding(crate::specs::FileRules::right_rises))]
 fn right_rises(rights: &[u8], i: usize) -> bool
     requires { i < right_count rights.now }
     ensures { result ≡ right_rises rights.now i }

@@ -8,6 +8,7 @@ use numbers::in_range;
 use records::stations::station_at;
 
 // The first row has none before it.
+#[tactic(auto, unfolding(crate::specs::FileRules::number_rises))]
 fn number_rises(stations: &[u8], row: usize) -> bool
     requires { row < rows_of stations.now }
     ensures { result ≡ number_rises stations.now row }

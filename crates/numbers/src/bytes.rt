@@ -6,6 +6,7 @@ ghost use Rattle.numbers.specs.Bytes.{le16_at, le32_at, le64_at, bytes64, three_
 use crate::all_below;
 
 // A number of two bytes, of four and of eight. The library has a method for each width as well.
+#[tactic(auto, unfolding(crate::specs::Bytes::le16_at))]
 pub fn le16(s: &[u8], at: usize) -> u16
     requires { at + 2 ≤ length s.now }
     ensures { result ≡ le16_at s.now at }
@@ -13,6 +14,7 @@ pub fn le16(s: &[u8], at: usize) -> u16
     u16::from_le_bytes([s[at], s[at + 1]])
 }
 
+#[tactic(auto, unfolding(crate::specs::Bytes::le32_at))]
 pub fn le32(s: &[u8], at: usize) -> u32
     requires { at + 4 ≤ length s.now }
     ensures { result ≡ le32_at s.now at }
@@ -20,6 +22,7 @@ pub fn le32(s: &[u8], at: usize) -> u32
     u32::from_le_bytes([s[at], s[at + 1], s[at + 2], s[at + 3]])
 }
 
+#[tactic(auto, unfolding(crate::specs::Bytes::le64_at, crate::specs::Bytes::le32_at))]
 pub fn le64(s: &[u8], at: usize) -> u64
     requires { at + 8 ≤ length s.now }
     ensures { result ≡ le64_at s.now at }
@@ -52,6 +55,7 @@ pub fn three_zeros(s: &[u8], at: usize) -> bool
 }
 
 // Whether n numbers of four bytes, each `step` bytes after the one before, are at most a limit.
+#[tactic(auto, unfolding(crate::specs::Bytes::all_at_most))]
 pub fn all_at_most(s: &[u8], at: usize, step: usize, n: usize, most: u32) -> bool
     requires { (at + step * n ≤ length s.now) × (4 ≤ step) }
     ensures { result ≡ all_at_most s.now at step n most }

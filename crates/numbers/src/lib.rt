@@ -15,6 +15,7 @@ pub fn wide32(x: u32) -> u64
 // ---- bits of a word
 
 // Whether bit i of a word is set.
+#[tactic(auto, unfolding(general::specs::Tests::bit))]
 pub fn bit_of(word: u64, i: u64) -> bool
     requires { i < 64 }
     ensures { result ≡ bit word i }

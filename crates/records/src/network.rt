@@ -7,6 +7,7 @@ ghost use Rattle.records.specs.Network.{order_at};
 ghost use Rattle.records.specs.Table.{below_code, table_of, step_of, path_by, OnTable};
 
 // Widened, so that one more than an order does not wrap.
+#[tactic(auto, unfolding(crate::specs::Records::station_record))]
 fn order_at(stations: &[u8], row: usize) -> usize
     requires { row < rows_of stations.now }
     ensures { (result ≡ order_at stations.now row) × (result < 256) }
@@ -51,6 +52,7 @@ pub fn rows_below(stations: &[u8]) -> [u8; 64]
 }
 
 // The row below, by the table.
+#[tactic(auto, unfolding(crate::specs::Table::step_of))]
 pub fn next_row(below: &[u8; 64], row: usize) -> Option<usize>
     requires { row < 64 }
     ensures { result ≡ step_of below.now row }

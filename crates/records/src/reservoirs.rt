@@ -12,6 +12,7 @@ pub struct ReservoirRecord {
     pub start: u32,
 }
 
+#[tactic(auto, unfolding(crate::specs::Records::reservoir_record))]
 pub fn reservoir_at(reservoirs: &[u8], v: usize) -> ReservoirRecord
     requires { v < reservoir_count reservoirs.now }
     ensures { result ≡ reservoir_record reservoirs.now v }
@@ -25,6 +26,7 @@ pub fn reservoir_at(reservoirs: &[u8], v: usize) -> ReservoirRecord
 }
 
 // The storage of pair k of the area-capacity table. It and the next differ in a number alone; each has its name in the definitions.
+#[tactic(auto, unfolding(crate::specs::Records::content_at))]
 pub fn content_at(reservoirs: &[u8], v: usize, k: usize) -> u32
     requires { (v < reservoir_count reservoirs.now) × (k < 4) }
     ensures { result ≡ content_at reservoirs.now v k }
@@ -33,6 +35,7 @@ pub fn content_at(reservoirs: &[u8], v: usize, k: usize) -> u32
 }
 
 // The area of pair k of that table.
+#[tactic(auto, unfolding(crate::specs::Records::area_at))]
 pub fn area_at(reservoirs: &[u8], v: usize, k: usize) -> u32
     requires { (v < reservoir_count reservoirs.now) × (k < 4) }
     ensures { result ≡ area_at reservoirs.now v k }
@@ -41,6 +44,7 @@ pub fn area_at(reservoirs: &[u8], v: usize, k: usize) -> u32
 }
 
 // The depth that evaporates in month m.
+#[tactic(auto, unfolding(crate::specs::Records::depth_at))]
 pub fn depth_at(reservoirs: &[u8], v: usize, m: usize) -> u16
     requires { (v < reservoir_count reservoirs.now) × (m < 12) }
     ensures { result ≡ depth_at reservoirs.now v m }

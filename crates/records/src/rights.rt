@@ -29,6 +29,7 @@ pub struct RightRecord {
 }
 
 // The byte that says a right's kind, as it stands in the file.
+#[tactic(auto, unfolding(crate::specs::Records::kind_byte))]
 pub fn kind_byte(rights: &[u8], i: usize) -> u8
     requires { i < right_count rights.now }
     ensures { result ≡ kind_byte rights.now i }
@@ -41,6 +42,7 @@ pub fn kind_byte(rights: &[u8], i: usize) -> u8
 impl From<u8> for Kind {
     ghost from_gives = { λ byte kind. kind ≡ kind_named byte };
 
+    #[tactic(auto, unfolding(crate::specs::Records::kind_named))]
     fn from(byte: u8) -> Kind {
         match byte {
             1 => Kind::Direct,
@@ -51,6 +53,7 @@ impl From<u8> for Kind {
     }
 }
 
+#[tactic(auto, unfolding(crate::specs::Records::right_record))]
 pub fn right_at(rights: &[u8], i: usize) -> RightRecord
     requires { i < right_count rights.now }
     ensures { result ≡ right_record rights.now i }
@@ -72,6 +75,7 @@ pub fn right_at(rights: &[u8], i: usize) -> RightRecord
 }
 
 // The row of return point k. It and the next differ in a number alone; each has its name in the definitions.
+#[tactic(auto, unfolding(crate::specs::Records::return_row))]
 pub fn return_row(rights: &[u8], i: usize, k: usize) -> u8
     requires { (i < right_count rights.now) × (k < 4) }
     ensures { result ≡ return_row rights.now i k }
@@ -80,6 +84,7 @@ pub fn return_row(rights: &[u8], i: usize, k: usize) -> u8
 }
 
 // The percent of return point k.
+#[tactic(auto, unfolding(crate::specs::Records::return_percent))]
 pub fn return_percent(rights: &[u8], i: usize, k: usize) -> u8
     requires { (i < right_count rights.now) × (k < 4) }
     ensures { result ≡ return_percent rights.now i k }

@@ -11,6 +11,7 @@ pub struct StationRecord {
     pub order: u8,
 }
 
+#[tactic(auto, unfolding(crate::specs::Records::station_record))]
 pub fn station_at(stations: &[u8], row: usize) -> StationRecord
     requires { row < rows_of stations.now }
     ensures { result ≡ station_record stations.now row }

@@ -26,6 +26,7 @@ impl Section {
     }
 
     // The bytes of one record.
+    #[tactic(auto, unfolding(crate::specs::File::width_of))]
     fn width(self) -> usize
         ensures { (result ≡ width_of (place_of self)) × (result < 77) }
     {
@@ -38,6 +39,7 @@ impl Section {
     }
 
     // Where its body starts, by the table.
+    #[tactic(auto, unfolding(crate::specs::File::offset_of))]
     fn offset(self, file: &[u8]) -> usize
         requires { 32 ≤ length file.now }
         ensures { (result ≡ offset_of file.now (place_of self)) × (result < 4294967296) }
@@ -46,6 +48,7 @@ impl Section {
     }
 
     // The number of its records, by the table.
+    #[tactic(auto, unfolding(crate::specs::File::count_of))]
     fn count(self, file: &[u8]) -> u32
         requires { 32 ≤ length file.now }
         ensures { result ≡ count_of file.now (place_of self) }
