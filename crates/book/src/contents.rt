@@ -68,6 +68,7 @@ fn is_rising(book: &[u8], i: usize) -> bool
     i == 0 || year_at(book, i - 1) < year_at(book, i)
 }
 
+#[tactic(auto, using(general::proofs::Tests::joins), unfolding(crate::specs::Book::entry_ok))]
 fn entry_ok(rows: usize, book: &[u8], i: usize) -> bool
     requires { Headed rows book.now × (i < most_years) × (entry_at (i + 1) ≤ length book.now) }
     ensures { result ≡ entry_ok rows book.now i }

@@ -5,7 +5,7 @@ use Prim.Native.Nat.{ℕ, zero, suc, ◌+◌, ◌*◌, ◌≤◌, ◌<◌}
 use native.Mathlib.Numerals.{add-one}
 use native.Mathlib.Omega.{arith}
 use lib.ListN.{length, get_or, take, length-append, get_or-append}
-use lib.Seq.{length-take-le, take-suc, take_all, get_or-append-add}
+use lib.Seq.{length-take-le, take-suc, get_or-append-add}
 use Rattle.general.specs.Parts.{over}
 use Rattle.general.proofs.Parts.{over-over, over_none}
 use Rattle.general.proofs.Tables.{tab-length, tab-at}
@@ -39,9 +39,6 @@ numbers_more s at b k {x} {y} h l ex ey =
     ∙ ap (λ (n : ℕ). over (over s at (bytes_of (take k b))) (at + n) (bytes64 (get_or b k 0))) e
     ∙ over-over s at (bytes_of (take k b)) (bytes64 (get_or b k 0)) h
     ∙ ap (over s at) (sym (bytes-append (take k b) (get_or b k 0)) ∙ ap bytes_of (sym (take-suc b k 0 l) ∙ ap (λ (n : ℕ). take n b) (sym (add-one k))))
-
-pub numbers-all : (s : List ℕ) (at : ℕ) (b : List ℕ) (k : ℕ) {x : List ℕ} → length b ≤ k → x ≡ over s at (bytes_of (take k b)) → x ≡ over s at (bytes_of b)
-numbers-all s at b k h ex = ex ∙ ap (λ (r : List ℕ). over s at (bytes_of r)) (take_all k b h)
 
 -- ---- read back
 

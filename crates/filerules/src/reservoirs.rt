@@ -35,6 +35,7 @@ fn depths_ok(reservoirs: &[u8], v: usize) -> bool
 }
 
 // The area-capacity table starts empty and rises.
+#[tactic(auto, using(general::proofs::Tests::joins), unfolding(crate::specs::FileRules::surveys_ok))]
 fn surveys_ok(reservoirs: &[u8], v: usize) -> bool
     requires { v < reservoir_count reservoirs.now }
     ensures { result ≡ surveys_ok reservoirs.now v }
@@ -43,6 +44,7 @@ fn surveys_ok(reservoirs: &[u8], v: usize) -> bool
 }
 
 // The rules of the record's first 12 bytes.
+#[tactic(auto, using(general::proofs::Tests::joins), unfolding(crate::specs::FileRules::reservoir_plain))]
 fn plain_ok(stations: &[u8], reservoirs: &[u8], v: usize) -> bool
     requires { v < reservoir_count reservoirs.now }
     ensures { result ≡ reservoir_plain stations.now reservoirs.now v }
@@ -54,6 +56,7 @@ fn plain_ok(stations: &[u8], reservoirs: &[u8], v: usize) -> bool
         & (x.start <= x.capacity)
 }
 
+#[tactic(auto, using(general::proofs::Tests::joins), unfolding(crate::specs::FileRules::reservoir_ok))]
 pub fn reservoir_ok(stations: &[u8], reservoirs: &[u8], v: usize) -> bool
     requires { v < reservoir_count reservoirs.now }
     ensures { result ≡ reservoir_ok stations.now reservoirs.now v }

@@ -11,6 +11,7 @@ use records::network::on_path;
 use records::reservoirs::reservoir_at;
 use records::rights::{Kind, RightRecord, kind_byte, return_percent, return_row, right_at};
 
+#[tactic(auto, using(general::proofs::Tests::joins), unfolding(crate::specs::FileRules::date_ok))]
 fn date_ok(date: u32) -> bool
     ensures { result ≡ date_ok date }
 {
@@ -37,6 +38,7 @@ fn limit_ok(kind: Kind, limit: u32) -> bool
 }
 
 // The rules that the record shows by itself, in a basin of n rows.
+#[tactic(auto, using(general::proofs::Tests::joins), unfolding(crate::specs::FileRules::heading_ok))]
 fn heading_ok(n: usize, r: RightRecord) -> bool
     ensures { result ≡ heading_ok n r }
 {
@@ -57,6 +59,7 @@ fn below_reservoir(below: &[u8; 64], reservoirs: &[u8], v: usize, row: usize) ->
 }
 
 // Whether the row is that of reservoir v.
+#[tactic(auto, using(general::proofs::Tests::joins), unfolding(crate::specs::FileRules::at_reservoir))]
 fn at_reservoir(reservoirs: &[u8], v: usize, row: u8) -> bool
     ensures { result ≡ at_reservoir reservoirs.now v row }
 {
@@ -78,6 +81,7 @@ fn source_ok(below: &[u8; 64], reservoirs: &[u8], r: RightRecord) -> bool
     }
 }
 
+#[tactic(auto, using(general::proofs::Tests::joins), unfolding(crate::specs::FileRules::point_ok))]
 fn point_ok(n: usize, from: usize, row: usize, percent: u8) -> bool
     ensures { result ≡ point_ok n from row percent }
 {
@@ -106,6 +110,7 @@ fn percent_sum(rights: &[u8], i: usize, points: usize) -> u32
 }
 
 // The rules of a right that has return points.
+#[tactic(auto, using(general::proofs::Tests::joins), unfolding(crate::specs::FileRules::points_ok))]
 fn points_ok(n: usize, np: usize, rights: &[u8], i: usize, r: RightRecord) -> bool
     requires { (i < right_count rights.now) × (r.points ≤ 4) }
     ensures { result ≡ points_ok n np rights.now i r }
@@ -128,6 +133,7 @@ fn diversion_ok(n: usize, np: usize, rights: &[u8], i: usize, r: RightRecord) ->
     points_ok(n, np, rights, i, r)
 }
 
+#[tactic(auto, using(general::proofs::Tests::joins), unfolding(crate::specs::FileRules::returns_ok, crate::specs::FileRules::undiverted_ok))]
 fn returns_ok(n: usize, np: usize, rights: &[u8], i: usize, r: RightRecord) -> bool
     requires { (i < right_count rights.now) × (r.points ≤ 4) }
     ensures { result ≡ returns_ok r.kind n np rights.now i r }
@@ -142,6 +148,7 @@ fn returns_ok(n: usize, np: usize, rights: &[u8], i: usize, r: RightRecord) -> b
 }
 
 // Whether pairs that are no return points are zero.
+#[tactic(auto, using(general::proofs::Tests::joins), unfolding(crate::specs::FileRules::unused_ok))]
 fn unused_ok(rights: &[u8], i: usize, points: usize) -> bool
     requires { i < right_count rights.now }
     ensures { result ≡ unused_ok rights.now i points }
@@ -160,6 +167,7 @@ fn amounts_ok(rights: &[u8], i: usize) -> bool
 }
 
 // Whether one right comes before another in the order of service.
+#[tactic(auto, using(general::proofs::Tests::joins), unfolding(crate::specs::FileRules::earlier))]
 fn is_earlier(a: RightRecord, b: RightRecord) -> bool
     ensures { result ≡ earlier a b }
 {

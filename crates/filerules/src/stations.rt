@@ -17,6 +17,7 @@ fn number_rises(stations: &[u8], row: usize) -> bool
 }
 
 // The rules that need no other row than the one before.
+#[tactic(auto, using(general::proofs::Tests::joins), unfolding(crate::specs::FileRules::station_plain))]
 pub fn plain_ok(stations: &[u8], row: usize) -> bool
     requires { row < rows_of stations.now }
     ensures { result ≡ station_plain stations.now row }

@@ -91,13 +91,6 @@ abbrev without : ℕ → ℕ → ℕ
 without w i = w - only (bit w i) (2 ^ i)
 
 module _ (w i : ℕ) where
-  pub without-le : only (bit w i) (2 ^ i) ≤ w
-  without-le = go (bit w i) refl
-    where
-      go : (t : Bool) → bit w i ≡ t → only t (2 ^ i) ≤ w
-      go true e = (bit-cleared i w e).0
-      go false e = omega arith
-
   without-here : bit (without w i) i ≡ false
   without-here = go (bit w i) refl
     where

@@ -1,7 +1,7 @@
 -- From a test to the fact and back. Assumes nothing.
 use mathlib.Core.Path.{◌≡◌, refl, sym, subst}
 use mathlib.Core.Logic.{◌≢◌}
-use mathlib.Core.Bool.{Bool, true, false, not, cond}
+use mathlib.Core.Bool.{Bool, true, false, not, cond, ◌&&◌}
 use Prim.Native.Nat.{ℕ, ◌+◌, ◌≤◌, ◌<◌}
 use native.Mathlib.Omega.{arith}
 use lib.Dec.{T, leb, ltb, eqb, eqb→eq, eqb_refl, leb→le, le→leb, ltb→lt, lt→ltb, nltb→le}
@@ -123,3 +123,10 @@ only_none false = refl
 pub only_sum : (s : Bool) (x y : ℕ) → only s (x + y) ≡ only s x + only s y
 only_sum true x y = refl
 only_sum false x y = refl
+
+-- tests joined by `&`
+pub and-is : (a b : Bool) → (a and b) ≡ (a && b)
+unfolding ◌and◌
+and-is a b = refl
+
+pub ruleset joins = (and-is)

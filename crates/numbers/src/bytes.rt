@@ -47,6 +47,7 @@ pub fn put64(s: &mut [u8], at: usize, x: u64)
 }
 
 // Whether three bytes are zero.
+#[tactic(auto, using(general::proofs::Tests::joins), unfolding(crate::specs::Bytes::three_zeros))]
 pub fn three_zeros(s: &[u8], at: usize) -> bool
     requires { at + 3 ≤ length s.now }
     ensures { result ≡ three_zeros s.now at }

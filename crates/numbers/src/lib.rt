@@ -46,6 +46,7 @@ pub fn put_bit(word: u64, i: u64, on: bool) -> u64
 
 // ---- tests
 
+#[tactic(auto, using(general::proofs::Tests::joins))]
 pub fn both(a: bool, b: bool) -> bool
     ensures { result ≡ (a and b) }
 {

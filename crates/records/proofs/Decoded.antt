@@ -1,5 +1,5 @@
 -- The decoded lists of a basin, record by record; those of the stations stand in Rows. Assumes nothing.
-use mathlib.Core.Path.{◌≡◌, refl, sym, ap, ◌∙◌}
+use mathlib.Core.Path.{◌≡◌, sym, ap, ◌∙◌}
 use mathlib.Core.List.{List, []}
 use Prim.Native.Nat.{ℕ, ◌<◌}
 use lib.ListN.{length, get_or}
@@ -55,10 +55,6 @@ module _ (w : Bodies) where
 pub file-rows : (f : List ℕ) {st : List ℕ} → st ≡ section_of f 0 → rows_of st ≡ rows (basin_of f)
 unfolding basin_of bodies
 file-rows f e = ap rows_of e ∙ sym (rows_are (section_of f 0))
-
-pub basin-bodies : (f : List ℕ) → basin_of f ≡ bodies (section_of f 0) (section_of f 1) (section_of f 2) (section_of f 3)
-unfolding basin_of bodies
-basin-bodies f = refl
 
 -- what the bodies of a file describe is the file's basin
 pub basin-same : (f : List ℕ) (w : Bodies) → BodiesOf f w → basin_in w ≡ basin_of f

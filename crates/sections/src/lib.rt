@@ -80,6 +80,7 @@ impl Section {
     }
 }
 
+#[tactic(auto, using(general::proofs::Tests::joins), unfolding(crate::specs::File::counts_ok))]
 fn counts_ok(file: &[u8]) -> bool
     requires { 32 ≤ length file.now }
     ensures { result ≡ counts_ok file.now }
@@ -90,6 +91,7 @@ fn counts_ok(file: &[u8]) -> bool
         & (Section::Rights.count(file) <= 256)
 }
 
+#[tactic(auto, using(general::proofs::Tests::joins), unfolding(crate::specs::File::packed))]
 fn is_packed(file: &[u8]) -> bool
     requires { 32 ≤ length file.now }
     ensures { result ≡ packed file.now }
