@@ -6,7 +6,6 @@ ghost use Rattle.filerules.specs.FileRules.{station_ok};
 ghost use Rattle.filecheck.specs.Check.{stations_verdict, only_if};
 
 use filerules::stations::plain_ok;
-use numbers::both;
 use records::network::row_below;
 use records::stations::station_at;
 use rules::Refusal;
@@ -17,7 +16,7 @@ fn check_last(stations: &[u8], last: usize) -> Result<(), Refusal>
     ensures { result ≡ only_if (station_ok stations.now last) (Refusal.Station last) }
 {
     let x = station_at(stations, last);
-    if both(plain_ok(stations, last), x.order == 1) {
+    if plain_ok(stations, last) & (x.order == 1) {
         return Ok(());
     }
     Err(Refusal::Station(last))

@@ -6,12 +6,6 @@ ghost use Rattle.general.specs.Tests.{◌and◌, between, all_to, bit, with_bit}
 
 pub mod bytes;
 
-pub fn wide32(x: u32) -> u64
-    ensures { (result ≡ x) × (result < 4294967296) }
-{
-    x as u64
-}
-
 // ---- bits of a word
 
 // Whether bit i of a word is set.
@@ -45,13 +39,6 @@ pub fn put_bit(word: u64, i: u64, on: bool) -> u64
 }
 
 // ---- tests
-
-#[tactic(auto, using(general::proofs::Tests::joins))]
-pub fn both(a: bool, b: bool) -> bool
-    ensures { result ≡ (a and b) }
-{
-    a & b
-}
 
 // What `contains` of a range says, in the words of the rules.
 pub fn in_range(low: u32, x: u32, high: u32) -> bool

@@ -1,7 +1,7 @@
 -- `filecheck::stations::check_last` meets its contract. The last row's rule asks for its order. Assumes nothing.
 use mathlib.Core.Bool.{Bool}
 use mathlib.Core.List.{List}
-use mathlib.Core.Path.{◌≡◌}
+use mathlib.Core.Path.{◌≡◌, refl}
 use Prim.Native.Nat.{ℕ, ◌+◌}
 use lib.Dec.{eqb}
 use Rattle.general.specs.Tests.{◌and◌}
@@ -16,8 +16,10 @@ use Rattle.filecheck.proofs.stations.check_last.Goals as goal
 ruled : (s : List ℕ) (i : ℕ) {x : StationRecord} {p b v : Bool} → i + 1 ≡ rows_of s → x ≡ station_record s i → p ≡ station_plain s i → b ≡ (p and eqb x.order 1) → b ≡ v → station_ok s i ≡ v
 ruled s i h ex ep eb ev = cc (last_row_lem s i h)
 
-pub returns-then-both : goal.returns-then-both
-returns-then-both c = let a = c.args in only-good _ (ruled a.stations.now a.last c.requires c.station_at-x.ensures c.plain_ok.ensures c.both.ensures c.if-both.true)
+pub returns-then-plain_ok-x : goal.returns-then-plain_ok-x
+unfolding ◌and◌
+returns-then-plain_ok-x c = let a = c.args in only-good _ (ruled a.stations.now a.last c.requires c.station_at-x.ensures c.plain_ok.ensures refl c.if-plain_ok-x.true)
 
 pub returns : goal.returns
-returns c = let a = c.args in only-bad _ (ruled a.stations.now a.last c.requires c.station_at-x.ensures c.plain_ok.ensures c.both.ensures c.if-both.false)
+unfolding ◌and◌
+returns c = let a = c.args in only-bad _ (ruled a.stations.now a.last c.requires c.station_at-x.ensures c.plain_ok.ensures refl c.if-plain_ok-x.false)
