@@ -69,9 +69,6 @@ module _ (month : ℕ) (rights report : List ℕ) (t : Text) where
       rw (add-one i) (ap (λ (x : Right). so_far i ++ right_line month x report i) (sym (right_is rights i h))) in
       put_as e (omega (arith, all.within, ap length e)) all
 
-  pub lines-all : (i n : ℕ) (u : Text) → i ≡ n → n ≤ 256 → Put (126 * i) (so_far i) t u → Put 32256 (so_far n) t u
-  lines-all i n u e h p = put_as (ap so_far e) (omega (arith, p.within, ap (λ (k : ℕ). length (so_far k)) e)) p
-
 -- ---- the month
 
 -- n numbers from a place on, by their places

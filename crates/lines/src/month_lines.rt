@@ -31,7 +31,7 @@ fn put_right(text: &mut Text, month: u64, rights: &[u8], report: &[u64], i: usiz
     ]);
 }
 
-// The lines of all rights.
+// The lines of all rights, by index, since a line is told by the i-th record and the i-th part of the report.
 fn put_rights(text: &mut Text, month: u64, rights: &[u8], report: &[u64])
     requires { (32256 ≤ text.old.room) × (right_count rights.now ≤ 256) × (lines_end (right_count rights.now) ≤ length report.now) }
     ensures { Put 32256 (right_lines month (rights_of rights.now) report.now (right_count rights.now)) text.old text.new }

@@ -7,20 +7,11 @@ use Rattle.lines.proofs.Decimals.{more-long, four-long}
 use Rattle.lines.proofs.Digits.{put-more, put-four-more}
 use Rattle.lines.proofs.words.+put_number.Goals as goal
 
-pub put_small-requires : goal.put_small-requires
-put_small-requires t c = (omega arith, c.requires)
-
-pub returns-then-n-lt100 : goal.returns-then-n-lt100
-returns-then-n-lt100 t c = c.put_small.ensures
-
 pub put_small-next-requires : goal.put_small-next-requires
 put_small-next-requires t c = let s = c.args in (omega arith, omega (arith, c.requires, more-long s.n (omega arith)))
 
 pub put_pair-requires : goal.put_pair-requires
 put_pair-requires t c = let s = c.args in (omega arith, omega (arith, c.requires, c.put_small-next.ensures.ends, more-long s.n (omega arith)))
-
-pub overflow_add-result : goal.overflow_add-result
-overflow_add-result t c = let s = c.args in omega (arith, c.requires, c.put_small-next.ensures.ends, more-long s.n (omega arith))
 
 pub returns-then-n-lt10000 : goal.returns-then-n-lt10000
 returns-then-n-lt10000 t c = let s = c.args in put-more s.out.now s.at s.n c.requires c.put_small-next.new.out _ _ (s.n / 100) (s.n % 100) (omega arith) refl refl (search rules) c.put_small-next.ensures c.put_pair.ensures
@@ -31,14 +22,8 @@ put_number-next-requires t c = let s = c.args in (omega (arith, c.decreases), om
 pub put_pair-requires-2 : goal.put_pair-requires-2
 put_pair-requires-2 t c = let s = c.args in (omega arith, omega (arith, c.requires, c.put_number-next.ensures.ends, four-long s.n (omega arith)))
 
-pub overflow_add-next : goal.overflow_add-next
-overflow_add-next t c = let s = c.args in omega (arith, c.requires, c.put_number-next.ensures.ends, four-long s.n (omega arith))
-
 pub put_pair-requires-3 : goal.put_pair-requires-3
 put_pair-requires-3 t c = let s = c.args in (omega arith, omega (arith, c.requires, c.put_number-next.ensures.ends, four-long s.n (omega arith)))
-
-pub overflow_add-result-2 : goal.overflow_add-result-2
-overflow_add-result-2 t c = let s = c.args in omega (arith, c.requires, c.put_number-next.ensures.ends, four-long s.n (omega arith))
 
 pub returns : goal.returns
 returns t c = let s = c.args in put-four-more s.out.now s.at s.n c.requires c.put_number-next.new.out c.put_pair-2.new.out _ _ (omega arith) (search rules) (search rules) c.put_number-next.ensures c.put_pair-2.ensures c.put_pair-3.ensures

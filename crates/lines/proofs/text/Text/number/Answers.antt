@@ -9,11 +9,6 @@ use Rattle.lines.proofs.text.Text.number.Goals as goal
 pub put_decimal-self-inside-requires : goal.put_decimal-self-inside-requires
 put_decimal-self-inside-requires c = omega (arith, c.requires, c.self.invariant, ap (λ (t : Text). t.room) c.self.view_is, at-most-twenty c.args.n (omega arith))
 
-pub invariant_of-self : goal.invariant_of-self
-invariant_of-self c =
-    let p = c.put_decimal-self-inside in
-    omega (arith, c.requires, c.self.invariant, ap (λ (t : Text). t.room) c.self.view_is, at-most-twenty c.args.n (omega arith), p.auto.out, p.ensures.ends)
-
 pub returns : goal.returns
 returns c =
     let p = c.put_decimal-self-inside in
