@@ -42,4 +42,3 @@ first_fault n ok = first_at n 0 (λ i. not (ok i))
 unfoldable pub all_to : ℕ → (ℕ → Bool) → Bool
 all_to zero t = true
 all_to (suc n) t = all_to n t and t n
-
