@@ -4,7 +4,7 @@ ghost use Rattle.places.specs.Board.{month_at};
 ghost use Rattle.rules.specs.Basin.{rows};
 ghost use Rattle.rules.specs.Years.{room_for_year};
 ghost use Rattle.records.specs.Records.{basin_of};
-ghost use Rattle.records.specs.Bodies.{basin_in};
+ghost use Rattle.records.specs.Bodies.{basin_in, BodiesOf};
 ghost use Rattle.filecheck.specs.Check.{check_of};
 ghost use Rattle.sheets.specs.Sheets.{sheet_at};
 ghost use Rattle.boards.specs.Bodies.{Counted};
@@ -96,15 +96,19 @@ fn run_fits(bodies: &Bodies<'_>, board: &[u64], reports: &[u64]) -> bool
 }
 
 // What is lent beside an accepted file: the lengths of board and list, then whether the board is possible.
-fn judge_lists(file: &[u8], board: &[u64], reports: &[u64]) -> Result<(), Refusal>
-    requires { check_of file.now ≡ Ok tt }
+fn judge_lists(
+    file: &[u8],
+    bodies: &Bodies<'_>,
+    board: &[u64],
+    reports: &[u64],
+) -> Result<(), Refusal>
+    requires { (check_of file.now ≡ Ok tt) × BodiesOf file.now bodies.now }
     ensures { refusal_of result ≡ lent_refusal file.now (run_fits (basin_of file.now) board.now reports.now) board.now }
 {
-    let bodies = Bodies::of(file);
-    if !run_fits(&bodies, board, reports) {
+    if !run_fits(bodies, board, reports) {
         return Err(Refusal::Lists);
     }
-    if !is_possible(&bodies, board) {
+    if !is_possible(bodies, board) {
         return Err(Refusal::Board);
     }
     Ok(())
@@ -120,8 +124,8 @@ fn run_body(
     requires { (check_of file.now ≡ Ok tt) × (length body.now ≡ body_size (rows (basin_of file.now))) }
     ensures { BodyMeets file.now (sheets_in (rows (basin_of file.now)) body.now) board.old reports.old (outcome_of (count_answer result) board.new reports.new) }
 {
-    judge_lists(file, board, reports)?;
     let bodies = Bodies::of(file);
+    judge_lists(file, &bodies, board, reports)?;
     let n = bodies.rows();
     let told = report_end(bodies.right_count(), n, bodies.reservoir_count());
     let mut runoff = [0u32; 64];

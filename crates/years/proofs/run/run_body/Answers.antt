@@ -9,6 +9,9 @@ use Rattle.years.specs.Years.{run_fits}
 use Rattle.years.proofs.Runs.{body-unfit, counted-here, can-through, body-went}
 use Rattle.years.proofs.run.run_body.Goals as goal
 
+pub judge_lists-requires : goal.judge_lists-requires
+judge_lists-requires c = (c.requires.0, c.of-bodies.ensures)
+
 pub returns-in_err-judge_lists : goal.returns-in_err-judge_lists
 returns-in_err-judge_lists c = search (rules, body-unfit)
 
