@@ -1,4 +1,6 @@
 // Months listed from whatever board: a board that was recalled may be any, so it is judged before a month is run on it.
+ghost use Rattle.std.specs.Prelude.{◌≤◌, length};
+
 use lines::month_lines::MOST_TEXT;
 use lines::text::Text;
 use lister::Listing;
@@ -13,9 +15,11 @@ pub fn list_months<'t>(
     first: u32,
     board: &mut [u64],
     out: &'t mut [u8],
-) -> &'t [u8] {
+) -> &'t [u8]
+    ensures { length result.now ≤ length out.old }
+{
     if out.len() < MOST_TEXT {
-        return &out[..0];
+        return &[];
     }
     let stocked = stock(file, board);
     let mut report = [0u64; MOST_REPORT];
@@ -44,7 +48,9 @@ pub fn print_months<'t, R: Print + Eprint>(
     first: u32,
     board: &mut [u64],
     out: &'t mut [u8],
-) -> &'t [u8] {
+) -> &'t [u8]
+    ensures { length result.now ≤ length out.old }
+{
     let text = list_months(file, sheets, first, board, out);
     let _ = write(rt, text);
     text

@@ -38,7 +38,9 @@ fn dry_spring<R: Print + Eprint>(
 }
 
 // The spring of a year that was run from the fresh board without any trial. The text of its winter is written over.
-fn list_untried<'t>(file: &[u8], winter: &[u8], spring: &[u8], out: &'t mut [u8]) -> &'t [u8] {
+fn list_untried<'t>(file: &[u8], winter: &[u8], spring: &[u8], out: &'t mut [u8]) -> &'t [u8]
+    ensures { length result.now ≤ length out.old }
+{
     let mut board = [0u64; BOARD_LENGTH];
     let _ = fresh(file, &mut board);
     list_months(file, winter, 0, &mut board, &mut *out);
