@@ -1,5 +1,5 @@
 -- What the calls turn down, in the order of the numbers (01, "Numbers for what is turned down").
-use Rattle.std.specs.Prelude.{Bool, List, ℕ, Option, None, Some, Result, Ok, Err}
+use Rattle.std.specs.Prelude.{Bool, List, ◌++◌, ℕ, Option, None, Some, Result, Ok, Err, codes, decimal}
 use Rattle.rules.specs.declared.Refusal.{Refusal}
 use Rattle.rules.specs.declared.Refusal.TheVariants.{Lists, Board}
 use Rattle.rules.specs.Answers.{Verdict, Answer, told, or_else, unless}
@@ -31,6 +31,10 @@ lent_refusal f fits board = or_else (file_refusal f) (or_else (unless fits Lists
 -- an answer as C and the programs that print have it
 abbrev pub answer_of : Given → Answer
 answer_of a = record { number = a.number; place = a.place }
+
+-- and as it is printed
+abbrev pub answer_text : Given → List ℕ
+answer_text a = decimal a.number ++ codes " " ++ decimal a.place
 
 -- that of a result: a refusal's number and place; else 0, and 0 or what was counted
 abbrev pub verdict_answer : Verdict → Answer

@@ -2,17 +2,28 @@
 // Within the engine a refusal is passed on as such.
 #![tactic(auto)]
 
-ghost use Rattle.std.specs.Prelude.{◌≡◌};
+ghost use Rattle.std.specs.Prelude.{◌≡◌, Some};
 ghost use Rattle.rules.specs.Answers.{number_of, place_of, told};
-ghost use Rattle.answers.specs.Answers.{answer_of, count_answer, verdict_answer};
+ghost use Rattle.answers.specs.Answers.{answer_of, answer_text, count_answer, verdict_answer};
 
 use rules::Refusal;
+use std::fmt;
 
 #[repr(C)]
 #[derive(Clone, Copy)]
 pub struct Answer {
     pub number: u64,
     pub place: u64,
+}
+
+// As the programs print it.
+impl fmt::Display for Answer {
+    ghost output = { λ a. Some (answer_text a) };
+
+    fn fmt<W: fmt::Write>(&self, f: &mut fmt::Formatter<W>) -> fmt::Result {
+        let Answer { number, place } = *self;
+        write!(f, "{number} {place}")
+    }
 }
 
 fn number(refusal: Refusal) -> u64
@@ -39,11 +50,11 @@ fn place(refusal: Refusal) -> usize
     ensures { result ≡ place_of refusal }
 {
     match refusal {
-        Refusal::Station(i) => i,
-        Refusal::Reservoir(i) => i,
-        Refusal::Pattern(i) => i,
-        Refusal::Right(i) => i,
-        Refusal::Runoff(i) => i,
+        Refusal::Station(i)
+        | Refusal::Reservoir(i)
+        | Refusal::Pattern(i)
+        | Refusal::Right(i)
+        | Refusal::Runoff(i) => i,
         _ => 0,
     }
 }

@@ -9,7 +9,7 @@ use native.Mathlib.Decide.{dec_lt}
 use native.Mathlib.Omega.{arith}
 use borrow.Author.Tests.{lt-leb}
 use lib.Dec.{leb, ltb}
-use lib.ListN.{length, get_or}
+use lib.ListN.{get_or}
 use Rattle.general.specs.Sums.{sum_to, only}
 use Rattle.general.specs.Tests.{◌and◌, all_to}
 use Rattle.general.proofs.Tests.{lt_of, leb_yes, ltb_yes, ltb_no}
@@ -23,9 +23,9 @@ use Rattle.records.specs.declared.bodies.Bodies.{Bodies}
 use Rattle.records.specs.Bodies.{basin_in, BodiesOf}
 use Rattle.records.proofs.Rows.{rows_are}
 use Rattle.records.proofs.Decoded.{basin-same, reservoirs-are, rights-are}
-use Rattle.places.specs.Board.{month_at, storage_at, marks_at, taken_at, due_at, word_at, taken_place, dues_of, due_place, words_from, word_place, board_length}
+use Rattle.places.specs.Board.{month_at, storage_at, marks_at, taken_at, due_at, word_at, taken_place, dues_of, due_place, words_from, word_place}
 use Rattle.boards.specs.Board.{possible, storage_sum, due_sum}
-use Rattle.boards.specs.Bodies.{storage_most, taken_most, storages_ok, taken_ok, dues_ok, words_ok, held_ok, row_ok, have_bits, Counted, Sized}
+use Rattle.boards.specs.Bodies.{storage_most, taken_most, storages_ok, taken_ok, dues_ok, words_ok, held_ok, row_ok, have_bits, Counted}
 
 -- ---- what a place may hold
 
@@ -139,9 +139,6 @@ counted w a = record {
   reservoirs_in = omega (arith, a.few_reservoirs, reservoirs-are w.reservoirs.now);
   rights_in = omega (arith, a.few_rights, rights-are w.rights.now);
 }
-
-pub sized : (w : Bodies) (board : List ℕ) → Accepted (basin_in w) → length board ≡ board_length → Sized w board
-sized w board a fits = let n = counted w a in record { rows_in = n.rows_in; reservoirs_in = n.reservoirs_in; rights_in = n.rights_in; board_long = fits }
 
 -- ---- the sums, by body
 

@@ -18,7 +18,7 @@ use Rattle.rules.specs.Month.{Carried}
 use Rattle.rules.specs.Theorems.{most_due}
 use Rattle.rules.proofs.Bounds.{CarriedCapped}
 use Rattle.rules.proofs.Noting.{Noted}
-use Rattle.places.specs.Board.{month_at, storage_at, marks_at, taken_at, due_at, word_at, board_length}
+use Rattle.places.specs.Board.{month_at, storage_at, marks_at, taken_at, due_at, word_at}
 use Rattle.boards.specs.Board.{word_of, board_of, possible}
 use Rattle.boards.specs.Bodies.{Bounded}
 use Rattle.boards.proofs.Board.{month-place, storage-place, marks-place, taken-place, due-place, word-place, word_none, word-less}
@@ -100,9 +100,8 @@ module _ (b : Basin) (acc : Accepted b) where
       pick (no h) = omega (arith, ap (λ (x : Right). x.limit) (get_or-eq_default b.rights no_right {n = i} (omega (arith, h))))
 
   -- the sums of a possible board cannot wrap
-  pub bounded : (bd : List ℕ) → length bd ≡ board_length → possible b bd ≡ true → Bounded bd
-  bounded bd size can = record {
-    long = size;
+  pub bounded : (bd : List ℕ) → possible b bd ≡ true → Bounded bd
+  bounded bd can = record {
     storages = λ v h. omega (arith, storage-most b bd can v h, capacity_most v);
     dues = λ w k h l. omega (arith, due_most b bd can w k h l, only-le (ltb w (rows b)) (most_due (suc k)));
   }

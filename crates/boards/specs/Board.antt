@@ -1,9 +1,11 @@
 -- A board of a basin: what it tells, when it is possible, and its sums (01, "The board and one month"; 02, No. 6). Where each number stands is said in `places`.
-use Rattle.std.specs.Prelude.{Bool, List, [], ◌∷◌, ℕ, suc, ◌+◌, ◌*◌, ◌^◌, leb, ltb, eqb, length, get_or}
+use Rattle.std.specs.Prelude.{Bool, true, false, Ok, Err, List, [], ◌∷◌, ℕ, suc, ◌+◌, ◌*◌, ◌^◌, leb, ltb, eqb, length, get_or}
 use Rattle.general.specs.Sums.{sum_to, only}
 use Rattle.general.specs.Tables.{tab}
 use Rattle.general.specs.Tests.{◌and◌, all_to, bit}
 use Rattle.places.specs.Board.{board_length, month_at, storage_at, marks_at, taken_at, due_at, word_at, Parts, board_by}
+use Rattle.rules.specs.declared.Refusal.TheVariants.{Lists, Board}
+use Rattle.rules.specs.Answers.{Verdict}
 use Rattle.rules.specs.Basin.{Basin, rows, reservoir_at, right_at}
 use Rattle.rules.specs.Month.{Carried}
 use Rattle.rules.specs.Theorems.{most_due}
@@ -54,6 +56,12 @@ possible b l =
     and all_to 256 (λ i. leb (taken_at l i) (right_at b i).limit)
     and all_to 64 (λ w. all_to 11 (λ k. leb (due_at l w (suc k)) (only (ltb w (rows b)) (most_due (suc k)))))
     and all_to 256 (λ i. ltb (word_at l i) (2 ^ only (ltb i (length b.rights)) 12))
+
+-- what is turned down beside an accepted file: lists that do not fit, then a board that is not possible
+abbrev pub judged : Bool → Bool → Verdict
+judged false can = Err Lists
+judged true false = Err Board
+judged true true = Ok tt
 
 -- ---- its sums
 

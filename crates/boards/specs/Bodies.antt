@@ -1,12 +1,12 @@
 -- What a possible board holds, read off the bodies of a file.
-use Rattle.std.specs.Prelude.{◌≡◌, Bool, List, ℕ, suc, ◌+◌, ◌^◌, ◌≤◌, ◌<◌, leb, ltb, length, get_or}
+use Rattle.std.specs.Prelude.{Bool, List, ℕ, suc, ◌+◌, ◌^◌, ◌≤◌, ◌<◌, leb, ltb, get_or}
 use Rattle.general.specs.Sums.{only}
 use Rattle.general.specs.Tests.{all_to}
 use Rattle.rules.specs.Basin.{no_reservoir, no_right}
 use Rattle.rules.specs.Theorems.{most_due}
 use Rattle.records.specs.declared.bodies.Bodies.{Bodies}
 use Rattle.records.specs.Records.{rows_of, reservoir_count, reservoirs_of, right_count, rights_of}
-use Rattle.places.specs.Board.{board_length, storage_at, taken_at, due_at, word_at}
+use Rattle.places.specs.Board.{storage_at, taken_at, due_at, word_at}
 
 -- ---- what each place may hold: 0 where there is no reservoir, right or row
 
@@ -44,21 +44,14 @@ row_ok board w = all_to 11 (λ k. leb (due_at board w (suc k)) (most_due (suc k)
 unfoldable pub have_bits : ℕ → List ℕ → ℕ → ℕ → Bool
 have_bits k board from n = all_to n (λ j. ltb (get_or board (from + j) 0) (2 ^ k))
 
--- ---- what an accepted file gives, and with it a board of the right length
+-- ---- what an accepted file gives
 
 pub record Counted (w : Bodies) : Type 0 where
   pub rows_in : rows_of w.stations.now ≤ 64
   pub reservoirs_in : reservoir_count w.reservoirs.now ≤ 8
   pub rights_in : right_count w.rights.now ≤ 256
 
-pub record Sized (w : Bodies) (board : List ℕ) : Type 0 where
-  pub rows_in : rows_of w.stations.now ≤ 64
-  pub reservoirs_in : reservoir_count w.reservoirs.now ≤ 8
-  pub rights_in : right_count w.rights.now ≤ 256
-  pub board_long : length board ≡ board_length
-
 -- what a possible board gives to its sums: no storage above the highest capacity that a file may have, no due above that of eleven months
 pub record Bounded (board : List ℕ) : Type 0 where
-  pub long : length board ≡ board_length
   pub storages : (v : ℕ) → v < 8 → storage_at board v ≤ 2_000_000_000
   pub dues : (w k : ℕ) → w < 64 → k < 11 → due_at board w (suc k) ≤ 2_816_000_000_000

@@ -4,10 +4,10 @@ ghost use Rattle.general.specs.Sums.{sum_to};
 ghost use Rattle.places.specs.Board.{storage_at, due_at};
 ghost use Rattle.boards.specs.Bodies.{Bounded};
 
-use places::board::{DUES, dues_of, storage_place};
+use places::board::{BOARD_LENGTH, DUES, dues_of, storage_place};
 
 // A possible board stores at most eight full reservoirs, so the sum fits.
-pub fn storage_sum(n: usize, board: &[u64]) -> u64
+pub fn storage_sum(n: usize, board: &[u64; BOARD_LENGTH]) -> u64
     requires { (n ≤ 8) × Bounded board.now }
     ensures { result ≡ sum_to n (storage_at board.now) }
 {
@@ -16,7 +16,7 @@ pub fn storage_sum(n: usize, board: &[u64]) -> u64
 }
 
 // The dues of a row stand one after the other, and the rows too.
-pub fn due_sum(n: usize, board: &[u64]) -> u64
+pub fn due_sum(n: usize, board: &[u64; BOARD_LENGTH]) -> u64
     requires { (n ≤ 64) × Bounded board.now }
     ensures { result ≡ sum_to n (λ w. sum_to 11 (λ k. due_at board.now w (suc k))) }
 {

@@ -1,23 +1,27 @@
 -- Laws of the book's layout, and of a year's place in its table. Assumes nothing.
-use Rattle.std.specs.Prelude.{Option, Some}
-use Rattle.std.specs.List.{find, range_with_len}
-use Rattle.std.specs.Option.{option_map}
-use Rattle.std.proofs.lemmas.Iterator.Adapters.{option_map_id}
-use mathlib.Core.Path.{◌≡◌, refl, sym, ap, ◌∙◌}
-use mathlib.Core.Bool.{Bool, false}
+use Rattle.std.specs.Prelude.{Option, Some, MatchOption, ⊤}
+use Rattle.std.specs.declared.ops.Range.{Range}
+use Rattle.std.specs.Iterator.{YieldsThen}
+use Rattle.std.specs.List.{FoldsTo}
+use Rattle.std.specs.Fn.{CalledAt}
+use Rattle.std.proofs.iter.Yields.{nat_range_steps}
+use Rattle.std.proofs.lemmas.Iterator.{first_from_Range}
+use denote.Ref.{Bor}
+use denote.Param.Members.{Mut}
+use mathlib.Core.Path.{◌≡◌, refl, ap, ◌∙◌}
+use mathlib.Core.Bool.{Bool, true, false}
 use mathlib.Core.List.{List}
 use Prim.Native.Nat.{ℕ, ◌+◌, ◌-◌, ◌*◌, ◌≤◌, ◌<◌}
 use native.Mathlib.Nat.{mul-le-mul}
 use native.Mathlib.Omega.{arith}
-use borrow.Author.Tests.{le-leb, lt-leb, eq-eqb, ne_eqb}
 use lib.Dec.{eqb}
 use lib.ListN.{length, take, drop, length-drop}
 use lib.Seq.{length-take-le}
-use Rattle.general.specs.Tests.{◌and◌, first_at, all_to}
+use Rattle.general.specs.Tests.{first_at}
 use Rattle.general.proofs.Tests.{both_of, eq_of, le_of}
-use Rattle.general.proofs.Search.{all-at, found-first, first-within}
+use Rattle.general.proofs.Search.{all-at, found-below, first-within}
 use Rattle.general.proofs.Loops.{step-within}
-use Rattle.book.specs.Book.{most_years, year_count, entry_at, year_at, offset_at, body_size, packed_at, entry_ok, book_ok, listed_at, body_of, Kept}
+use Rattle.book.specs.Book.{most_years, year_count, entry_at, year_at, offset_at, body_size, packed_at, entry_ok, book_ok, listed_at, body_of, Kept, Sized}
 
 -- ---- sizes
 
@@ -29,35 +33,17 @@ pub packed-is : (n : ℕ) (k : List ℕ) (i : ℕ) → packed_at n k i ≡ entry
 unfolding packed_at
 packed-is n k i = refl
 
-pub packed-read : (n : ℕ) (k : List ℕ) (i : ℕ) {c t s : ℕ} → c ≡ year_count k → t ≡ entry_at c → s ≡ body_size n → t + s * i ≡ packed_at n k i
-unfolding packed_at
-packed-read n k i ec et es = λ z. (et ∙ ap entry_at ec) z + es z * i
+-- ---- the layout
 
--- ---- the layout, test by test
+-- each entry of a table lies in the book
+pub entry_within : (n : ℕ) (k : List ℕ) (i : ℕ) → Sized n k → i < year_count k → entry_at i + 8 ≤ length k
+unfolding packed_at
+entry_within n k i h l = let w : length k ≡ entry_at (year_count k) + body_size n * year_count k = h.whole in omega arith
 
 module _ (n : ℕ) (k : List ℕ) where
-  pub book-short : length k < 4 → false ≡ book_ok n k
-  unfolding book_ok ◌and◌
-  book-short h = rw (lt-leb 4 (length k) h)
-
-  module _ (long : 4 ≤ length k) where
-    pub book-many : {c : ℕ} → c ≡ year_count k → most_years < c → false ≡ book_ok n k
-    unfolding book_ok ◌and◌
-    book-many e h = rw (le-leb 4 (length k) long, lt-leb (year_count k) most_years (omega arith))
-
-    module _ (small : year_count k ≤ most_years) where
-      pub book-ends : {c p : ℕ} → c ≡ year_count k → p ≡ packed_at n k c → (length k ≡ p → ⊥) → false ≡ book_ok n k
-      unfolding book_ok ◌and◌
-      book-ends e q h = rw (le-leb 4 (length k) long, le-leb (year_count k) most_years small, ne_eqb (length k) (packed_at n k (year_count k)) (λ z. h (z ∙ sym (q ∙ ap (packed_at n k) e))))
-
-      pub book-all : {c p : ℕ} {b : Bool} → c ≡ year_count k → p ≡ packed_at n k c → length k ≡ p → b ≡ all_to c (entry_ok n k) → b ≡ book_ok n k
-      unfolding book_ok ◌and◌
-      book-all {c} {p} {b} e q h a = rw (le-leb 4 (length k) long, le-leb (year_count k) most_years small, eq-eqb (length k) (packed_at n k (year_count k)) (h ∙ q ∙ ap (packed_at n k) e)) (a ∙ ap (λ (x : ℕ). all_to x (entry_ok n k)) e)
-
   -- ---- what a good book says
 
   pub record Laid : Type 0 where
-    pub long : 4 ≤ length k
     pub small : year_count k ≤ most_years
     pub whole : length k ≡ packed_at n k (year_count k)
     pub each : (i : ℕ) → i < year_count k → offset_at k i ≡ packed_at n k i
@@ -67,11 +53,9 @@ module _ (n : ℕ) (k : List ℕ) where
   laid h =
       let a = both_of h.good in
       let b = both_of a.0 in
-      let c = both_of b.0 in
-      record { long = le_of c.0; small = le_of c.1; whole = eq_of b.1; each = λ i l. eq_of (both_of (all-at (year_count k) (entry_ok n k) a.1 i l)).1 }
+      record { small = le_of (both_of b.0).1; whole = eq_of b.1; each = λ i l. eq_of (both_of (all-at (year_count k) (entry_ok n k) a.1 i l)).1 }
 
   pub record Within (i : ℕ) : Type 0 where
-    pub entry : (i < most_years) × (entry_at (i + 1) ≤ length k)
     pub body : offset_at k i + body_size n ≤ length k
     pub near : offset_at k i ≤ 100000
 
@@ -83,7 +67,7 @@ module _ (n : ℕ) (k : List ℕ) where
       let s : body_size n * i + body_size n ≤ body_size n * year_count k = step-within (body_size n) (year_count k) i l in
       let m : body_size n * year_count k ≤ 61440 = bodies-most n (year_count k) refl h.few d.small in
       let q : year_count k ≤ most_years = d.small in
-      record { entry = (omega arith, omega arith); body = omega arith; near = omega arith }
+      record { body = omega arith; near = omega arith }
 
   pub part-is : {s l : ℕ} (i : ℕ) → s ≡ offset_at k i → l ≡ body_size n → take (s + l - s) (drop s k) ≡ body_of n k i
   unfolding body_of
@@ -100,8 +84,11 @@ module _ (n : ℕ) (k : List ℕ) where
   listed-within y i e = omega (arith, first-within (λ j. eqb (year_at k j) y) (year_count k) 0 i e)
 
 -- a year's place as the library's search over the table finds it
-pub listed : (k : List ℕ) (y c : ℕ) {r : Option ℕ} → c ≡ year_count k → option_map (λ x. x) r ≡ find (λ j. eqb (year_at k j) y) (range_with_len 0 c) → r ≡ listed_at k y
+pub listed : (k : List ℕ) (y : ℕ) (u : Range ℕ) (o : Option ℕ) {c : ℕ} {F : Type 0} {g : Mut F (Bor ℕ × Unit {0}) Bool} {f : F} → c ≡ year_count k
+    → (xs : List ℕ) × (j : F) × YieldsThen nat_range_steps (record { start = 0; end = c }) xs o u × FoldsTo (λ p x q. CalledAt g p x false q) f xs j × MatchOption o ⊤ (λ x. (h : F) × CalledAt g j x true h)
+    → ((x : ℕ) (q : F) → CalledAt g f x true q → eqb (year_at k x) y ≡ true) → ((x : ℕ) (q : F) → CalledAt g f x false q → (q ≡ f) × (eqb (year_at k x) y ≡ false))
+    → o ≡ listed_at k y
 unfolding listed_at
-listed k y c {r} e f =
+listed k y u o {c} {F} {g} {f} e d here other =
     let t : ℕ → Bool = λ j. eqb (year_at k j) y in
-    sym (option_map_id r) ∙ f ∙ found-first t c 0 ∙ ap (λ (n : ℕ). first_at n 0 t) e
+    found-below t c o (first_from_Range _ u f o (λ j. t j ≡ true) (λ j. t j ≡ false) d here other) ∙ ap (λ (n : ℕ). first_at n 0 t) e

@@ -113,8 +113,9 @@ pub record Kept (n : ℕ) (k : List ℕ) : Type 0 where
   pub few : n ≤ 64
   pub good : book_ok n k ≡ true
 
--- or only a number of years that is there and not too large
-pub record Headed (n : ℕ) (k : List ℕ) : Type 0 where
+-- or only a number of years that is there and not too large, in a book as long as that number asks
+pub record Sized (n : ℕ) (k : List ℕ) : Type 0 where
   pub few : n ≤ 64
   pub long : 4 ≤ length k
   pub small : year_count k ≤ most_years
+  pub whole : length k ≡ packed_at n k (year_count k)

@@ -5,7 +5,7 @@ ghost use Rattle.records.specs.Records.{basin_of};
 ghost use Rattle.answers.specs.Answers.{refusal_of};
 ghost use Rattle.book.specs.Book.{lookup_refusal, year_part};
 
-use crate::contents::{book_ok, listed_body};
+use crate::contents::Table;
 use filecheck::check::check;
 use records::bodies::Bodies;
 use rules::Refusal;
@@ -23,9 +23,6 @@ pub fn find_year<'a>(file: &[u8], book: &'a [u8], year: u32) -> Result<&'a [u8],
     ensures part { IfOk result (λ body. body.now ≡ year_part file.now book.now year) }
 {
     check(file)?;
-    let rows = station_count(file);
-    if !book_ok(rows, book) {
-        return Err(Refusal::Book);
-    }
-    listed_body(rows, book, year).ok_or(Refusal::Year)
+    let table = Table::kept(station_count(file), book).ok_or(Refusal::Book)?;
+    table.listed_body(year).ok_or(Refusal::Year)
 }

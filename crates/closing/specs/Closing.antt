@@ -1,6 +1,6 @@
 -- The end of a month on the arrays: what each step asks for, and what it leaves (01, steps 4 and 5; 02, Nos. 5 and 6). A basin of n rights and h rows.
 use Rattle.std.specs.Prelude.{List, ◌≡◌, ℕ, ◌≤◌, ◌<◌, length, get_or, set}
-use Rattle.places.specs.Board.{month_place, board_length, month_at, word_at}
+use Rattle.places.specs.Board.{month_place, month_at, word_at}
 use Rattle.places.specs.Report.{lines_end, flow_place, available_place, rows_end, deep_place, report_end}
 use Rattle.rules.specs.Month.{next_month}
 use Rattle.records.specs.Records.{reservoir_count}
@@ -27,7 +27,6 @@ pub record RowsTold (n k : ℕ) (f a rp rp' : List ℕ) : Type 0 where
 pub record CanEnd (rs : List ℕ) (n h : ℕ) (bd rp : List ℕ) : Type 0 where
   pub few : reservoir_count rs ≤ 8
   pub in-year : month_at bd < 12
-  pub size : length bd ≡ board_length
   pub tell : CanTell n h rp
   pub words : (i : ℕ) → i < n → word_at bd i < 4096
   pub places : report_end n h (reservoir_count rs) ≤ length rp

@@ -1,6 +1,6 @@
 -- Evaporation in the arrays' words (01, step 4).
 use Rattle.std.specs.Prelude.{List, ◌≡◌, ℕ, ◌+◌, ◌-◌, ◌≤◌, ◌<◌, length, get_or}
-use Rattle.places.specs.Board.{board_length, storage_place, month_at, storage_at}
+use Rattle.places.specs.Board.{storage_place, month_at, storage_at}
 use Rattle.rules.specs.Month.{evaporation}
 use Rattle.records.specs.Records.{content_at, reservoir_count, reservoir_of}
 
@@ -18,11 +18,18 @@ pub record OnLine (rs : List ℕ) (v k low high x : ℕ) : Type 0 where
 abbrev pub loss_in : List ℕ → ℕ → ℕ → ℕ → ℕ
 loss_in rs m v x = evaporation m (reservoir_of rs v) x
 
-pub record CanEvaporate (rs : List ℕ) (m : ℕ) (bd rp : List ℕ) (at : ℕ) : Type 0 where
+pub record CanEvaporate (rs : List ℕ) (m : ℕ) (losses : List ℕ) : Type 0 where
   pub few : reservoir_count rs ≤ 8
   pub in-year : m < 12
-  pub size : length bd ≡ board_length
-  pub places : at + reservoir_count rs ≤ length rp
+  pub places : length losses ≡ reservoir_count rs
+
+-- the first k reservoirs have lost theirs, which is told in the list of losses
+pub record Evaporated (rs : List ℕ) (m k : ℕ) (bd bd' losses : List ℕ) : Type 0 where
+  pub storages : (v : ℕ) → v < k → storage_at bd' v ≡ storage_at bd v - loss_in rs m v (storage_at bd v)
+  pub told : (v : ℕ) → v < k → get_or losses v 0 ≡ loss_in rs m v (storage_at bd v)
+  pub kept_front : month_at bd' ≡ month_at bd
+  pub kept : (p : ℕ) → storage_place k ≤ p → get_or bd' p 0 ≡ get_or bd p 0
+  pub size : length bd' ≡ length bd
 
 -- the first k reservoirs have lost theirs, and the report tells it from `at` on
 pub record Lost (rs : List ℕ) (m k : ℕ) (bd rp : List ℕ) (at : ℕ) (bd' rp' : List ℕ) : Type 0 where

@@ -2,7 +2,7 @@
 use Rattle.std.specs.Prelude.{Bool, not, List, ◌≡◌, ℕ, ◌≤◌, ◌<◌, eqb, length, get_or}
 use Rattle.general.specs.Sums.{sum_to, only}
 use Rattle.general.specs.Tests.{with_bit}
-use Rattle.places.specs.Board.{words_from, word_place, board_length, word_at}
+use Rattle.places.specs.Board.{words_from, word_place, word_at}
 use Rattle.places.specs.Report.{reason_place, lines_end}
 
 -- whether the report has a reason for right i
@@ -16,7 +16,6 @@ reasons_in n rp = sum_to n (λ i. only (has_reason rp i) 1)
 pub record CanNote (n m : ℕ) (bd rp : List ℕ) : Type 0 where
   pub few : n ≤ 256
   pub in-year : m < 12
-  pub size : length bd ≡ board_length
   pub words : (i : ℕ) → i < n → word_at bd i < 4096
   pub lines : lines_end n ≤ length rp
 

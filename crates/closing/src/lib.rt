@@ -3,24 +3,27 @@
 
 ghost use Rattle.std.specs.Prelude.{◌≡◌, ◌<◌};
 ghost use Rattle.rules.specs.Month.{next_month};
+ghost use Rattle.records.specs.Records.{rows_of, right_count};
 ghost use Rattle.closing.specs.Closing.{CanTell, RowsTold, CanEnd, Ended};
 
 use crate::losses::evaporate;
 use crate::noting::note_shorts;
-use places::board::MONTH;
-use places::report::{AVAILABLE, deep_place, flow_place, rows_end};
+use places::board::{BOARD_LENGTH, MONTH};
+use places::report::{AVAILABLE, Shape};
+use records::bodies::Bodies;
 use river::River;
 
 pub mod losses;
 pub mod noting;
 
-// Flow and available flow of the rows, after the lines of n rights.
-fn put_rows(n: usize, rows: usize, river: &River, report: &mut [u64])
-    requires { CanTell n rows report.old }
-    ensures { RowsTold n rows river.now.flow river.now.available report.old report.new }
+// Flow and available flow of the rows, after the lines of the rights. The rows are counted: a row is one number of each of two lists and two
+// numbers of a third.
+fn put_rows(shape: Shape, river: &River, report: &mut [u64])
+    requires { CanTell shape.rights shape.rows report.old }
+    ensures { RowsTold shape.rights shape.rows river.now.flow river.now.available report.old report.new }
 {
-    for w in 0..rows {
-        let at = flow_place(n, w);
+    for w in 0..shape.rows {
+        let at = shape.flow_place(w);
         report[at] = river.flow[w];
         report[at + AVAILABLE] = river.available[w];
     }
@@ -38,32 +41,24 @@ fn next_month(m: u64) -> u64
     m + 1
 }
 
-// A month of the year as the tables count it.
-pub fn in_year(m: u64) -> usize
-    requires { m < 12 }
-    ensures { result ≡ m }
-{
-    m as usize
-}
-
-// The end of a month in a basin of n rights, of whose returns so much went deep. Answers how many rights are short.
+// The end of a month, of whose returns so much went deep. Answers how many rights are short.
 pub fn end(
-    reservoirs: &[u8],
-    n: usize,
-    rows: usize,
+    bodies: &Bodies<'_>,
     river: &River,
     deep: u64,
-    board: &mut [u64],
+    board: &mut [u64; BOARD_LENGTH],
     report: &mut [u64],
 ) -> usize
-    requires { CanEnd reservoirs.now n rows board.old report.old }
-    ensures { Ended reservoirs.now n rows river.now.flow river.now.available deep board.old report.old board.new report.new result }
+    requires { let b = bodies.now in CanEnd b.reservoirs.now (right_count b.rights.now) (rows_of b.stations.now) board.old report.old }
+    ensures { let b = bodies.now in Ended b.reservoirs.now (right_count b.rights.now) (rows_of b.stations.now) river.now.flow river.now.available deep board.old report.old board.new report.new result }
 {
     let m = board[MONTH];
-    let shorts = note_shorts(n, m, board, report);
-    put_rows(n, rows, river, report);
-    evaporate(reservoirs, in_year(m), board, report, rows_end(n, rows));
-    report[deep_place(n, rows, reservoirs.len() / 68)] = deep;
+    let shape = bodies.shape();
+    let shorts = note_shorts(shape.rights, m, board, report);
+    put_rows(shape, river, report);
+    let losses = &mut report[shape.rows_end()..shape.deep_place()];
+    evaporate(bodies.reservoirs, m as usize, board, losses);
+    report[shape.deep_place()] = deep;
     board[MONTH] = next_month(m);
     shorts
 }

@@ -1,10 +1,10 @@
-// Evaporation at the end of a month.
+// Evaporation at the end of a month. A reservoir is told by its body and its place there (`records`).
 ghost use Rattle.std.specs.Prelude.{◌≡◌, ◌+◌, ◌≤◌, ◌<◌};
 ghost use Rattle.records.specs.Records.{reservoir_count, survey_of, reservoir_of};
 ghost use Rattle.rules.specs.Month.{towards, on_line, area_at};
-ghost use Rattle.closing.specs.Losses.{OnLine, loss_in, CanEvaporate, Lost};
+ghost use Rattle.closing.specs.Losses.{OnLine, loss_in, CanEvaporate, Evaporated};
 
-use places::board::storage_place;
+use places::board::{BOARD_LENGTH, storage_place};
 use records::reservoirs::{area_at, content_at, depth_at};
 
 // From a towards b, n of d equal steps along.
@@ -28,7 +28,8 @@ fn on_line(reservoirs: &[u8], v: usize, k: usize, low: u64, high: u64, storage: 
     towards(from, to, storage - low, high - low)
 }
 
-// The area at a storage: on the line between two pairs, and from the last pair on the last area.
+// The area at a storage: on the line between two pairs, and from the last pair on the last area. The pairs are counted: a line has two of them, and
+// each is read off the record by its number.
 fn lake_area(reservoirs: &[u8], v: usize, storage: u64) -> u64
     requires { v < reservoir_count reservoirs.now }
     ensures { (result ≡ area_at (reservoir_of reservoirs.now v) storage) × (result < 4294967296) }
@@ -57,17 +58,15 @@ fn loss(reservoirs: &[u8], m: usize, v: usize, storage: u64) -> u64
     storage.min(area * depth)
 }
 
-// Step 4: each reservoir loses its evaporation, which the report tells from the place `at` on.
-pub fn evaporate(reservoirs: &[u8], m: usize, board: &mut [u64], report: &mut [u64], at: usize)
-    requires { CanEvaporate reservoirs.now m board.old report.old at }
-    ensures { Lost reservoirs.now m (reservoir_count reservoirs.now) board.old report.old at board.new report.new }
+// Step 4: each reservoir loses its evaporation, which is told at its place of `losses`.
+pub fn evaporate(reservoirs: &[u8], m: usize, board: &mut [u64; BOARD_LENGTH], losses: &mut [u64])
+    requires { CanEvaporate reservoirs.now m losses.old }
+    ensures { Evaporated reservoirs.now m (reservoir_count reservoirs.now) board.old board.new losses.new }
 {
-    let n = reservoirs.len() / 68;
-    for v in 0..n {
+    for (v, lost) in losses.iter_mut().enumerate() {
         let place = storage_place(v);
         let held = board[place];
-        let x = loss(reservoirs, m, v, held);
-        board[place] = held - x;
-        report[at + v] = x;
+        *lost = loss(reservoirs, m, v, held);
+        board[place] = held - *lost;
     }
 }

@@ -1,9 +1,9 @@
 // A board copied into its entry of a store, and back. The numbers go by way of an array that nothing else can reach, so that the compiler sees that
-// the two lists cannot meet in it: it then makes one move of all the bytes and keeps no array. A loop from list to list moves two numbers at a time.
-ghost use Rattle.std.specs.Prelude.{◌≡◌, ◌<◌, length};
+// the two lists cannot meet in it: it then makes one move of all the bytes and keeps no array. A loop from list to list moves two numbers at a time. The numbers go by their
+// places: of what is written through a `zip` of parts that are lent a proof knows nothing.
+ghost use Rattle.std.specs.Prelude.{◌≡◌, ◌<◌};
 ghost use Rattle.general.specs.Parts.{over};
-ghost use Rattle.places.specs.Board.{board_length};
-ghost use Rattle.entries.specs.Entries.{entry_count, store_length, board_start, board_at, bytes_of};
+ghost use Rattle.entries.specs.Entries.{entry_count, board_start, board_at, bytes_of};
 
 use crate::names::{ENTRIES, NAME_LENGTH};
 use numbers::bytes::{le64, put64};
@@ -22,8 +22,8 @@ fn board_start(entry: usize) -> usize
     ENTRIES * NAME_LENGTH + BOARD_BYTES * entry
 }
 
-fn put_numbers(store: &mut [u8], entry: usize, numbers: [u64; BOARD_LENGTH])
-    requires { (length store.old ≡ store_length) × (entry < entry_count) }
+fn put_numbers(store: &mut [u8; STORE_LENGTH], entry: usize, numbers: [u64; BOARD_LENGTH])
+    requires { entry < entry_count }
     ensures { store.new ≡ over store.old (board_start entry) (bytes_of numbers) }
 {
     let start = board_start(entry);
@@ -32,15 +32,15 @@ fn put_numbers(store: &mut [u8], entry: usize, numbers: [u64; BOARD_LENGTH])
     }
 }
 
-pub fn write_board(store: &mut [u8], entry: usize, board: &[u64])
-    requires { (length store.old ≡ store_length) × (entry < entry_count) × (length board.now ≡ board_length) }
+pub fn write_board(store: &mut [u8; STORE_LENGTH], entry: usize, board: &[u64; BOARD_LENGTH])
+    requires { entry < entry_count }
     ensures { store.new ≡ over store.old (board_start entry) (bytes_of board.now) }
 {
-    put_numbers(store, entry, board.try_into().unwrap());
+    put_numbers(store, entry, *board);
 }
 
-fn numbers_at(store: &[u8], entry: usize) -> [u64; BOARD_LENGTH]
-    requires { (length store.now ≡ store_length) × (entry < entry_count) }
+fn numbers_at(store: &[u8; STORE_LENGTH], entry: usize) -> [u64; BOARD_LENGTH]
+    requires { entry < entry_count }
     ensures { result ≡ board_at store.now entry }
 {
     let start = board_start(entry);
@@ -51,9 +51,9 @@ fn numbers_at(store: &[u8], entry: usize) -> [u64; BOARD_LENGTH]
     numbers
 }
 
-pub fn read_board(store: &[u8], entry: usize, board: &mut [u64])
-    requires { (length store.now ≡ store_length) × (entry < entry_count) × (length board.old ≡ board_length) }
+pub fn read_board(store: &[u8; STORE_LENGTH], entry: usize, board: &mut [u64; BOARD_LENGTH])
+    requires { entry < entry_count }
     ensures { board.new ≡ board_at store.now entry }
 {
-    board.copy_from_slice(&numbers_at(store, entry));
+    *board = numbers_at(store, entry);
 }

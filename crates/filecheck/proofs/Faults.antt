@@ -1,5 +1,13 @@
 -- Laws of the first at fault and of the verdicts that name it. Assumes nothing.
-use Rattle.std.specs.Prelude.{Option, None, Some, Ok, Err}
+use Rattle.std.specs.Prelude.{Option, None, Some, Ok, Err, MatchOption, ⊤}
+use Rattle.std.specs.declared.ops.Range.{Range}
+use Rattle.std.specs.Iterator.{YieldsThen}
+use Rattle.std.specs.List.{FoldsTo}
+use Rattle.std.specs.Fn.{CalledAt}
+use Rattle.std.proofs.iter.Yields.{nat_range_steps}
+use Rattle.std.proofs.lemmas.Iterator.{first_from_Range}
+use denote.Ref.{Bor}
+use denote.Param.Members.{Mut}
 use Rattle.std.specs.Result.{result_and}
 use mathlib.Core.Path.{◌≡◌, refl, sym, ap, ◌∙◌}
 use mathlib.Core.Bool.{Bool, true, false, not}
@@ -9,7 +17,7 @@ use native.Mathlib.Nat.{sub-zero}
 use native.Mathlib.Omega.{arith}
 use Rattle.general.specs.Tests.{first_at, first_fault}
 use Rattle.general.proofs.Tests.{both_of, lt_of}
-use Rattle.general.proofs.Search.{no-fault}
+use Rattle.general.proofs.Search.{no-fault, fault-found}
 use Rattle.general.proofs.Loops.{search-here, search-on, search-over}
 use Rattle.rules.specs.declared.Refusal.{Refusal}
 use Rattle.rules.specs.declared.Refusal.TheVariants.{Layout, Station, Reservoir, Pattern, Right}
@@ -57,6 +65,19 @@ module _ (r : ℕ → Refusal) (ok : ℕ → Bool) (n : ℕ) where
       go : (b : Bool) → ok i ≡ b → only_if b (r i) ≡ verdict_from r ok n i
       go true e = sym (only-good (r i) refl) ∙ verdict-done (i + 1) (omega arith) ∙ verdict-on i (omega arith) e
       go false e = sym (only-bad (r i) refl) ∙ verdict-here i (omega arith) e
+
+-- the first of n records at fault, as the library's search finds it
+pub fault-searched : (ok : ℕ → Bool) (u : Range ℕ) (o : Option ℕ) {n : ℕ} {F : Type 0} {g : Mut F (Bor ℕ × Unit {0}) Bool} {f : F}
+    → (xs : List ℕ) × (j : F) × YieldsThen nat_range_steps (record { start = 0; end = n }) xs o u × FoldsTo (λ p x q. CalledAt g p x false q) f xs j × MatchOption o ⊤ (λ x. (h : F) × CalledAt g j x true h)
+    → ((x : ℕ) (q : F) → CalledAt g f x true q → ok x ≡ false) → ((x : ℕ) (q : F) → CalledAt g f x false q → (q ≡ f) × (ok x ≡ true))
+    → o ≡ first_fault n ok
+fault-searched ok u o {n} {F} {g} {f} d bad good = fault-found n ok o (first_from_Range _ u f o (λ k. ok k ≡ false) (λ k. ok k ≡ true) d bad good)
+
+-- the verdict where what was found is made a refusal by `map_or`
+pub verdict-found : (r : ℕ → Refusal) (o : Option ℕ) {v : Verdict} {P : ℕ → Type 0} → MatchOption o (v ≡ Ok tt) P → ((i : ℕ) → P i → v ≡ Err (r i)) → v ≡ fault_verdict r o
+unfolding fault_verdict
+verdict-found r None m told = m
+verdict-found r (Some i) m told = told i m
 
 -- ---- one body after the other
 

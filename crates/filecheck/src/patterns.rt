@@ -10,8 +10,7 @@ pub fn check_patterns(patterns: &[u8]) -> Result<(), Refusal>
     ensures { result ≡ patterns_verdict patterns.now }
 {
     let n = patterns.len() / 12;
-    match (0..n).find(|&p| percent_sum(patterns, p) > 100) {
-        Some(p) => Err(Refusal::Pattern(p)),
-        None => Ok(()),
-    }
+    (0..n)
+        .find(|&p| percent_sum(patterns, p) > 100)
+        .map_or(Ok(()), |p| Err(Refusal::Pattern(p)))
 }

@@ -11,6 +11,7 @@ use records::stations::station_at;
 use rules::Refusal;
 
 // The last row has nowhere to go on to, and its own order is asked instead.
+#[tactic(auto, using(general::proofs::Tests::joins, filerules::proofs::RowRules::last_row_lem), unfolding(crate::specs::Check::only_if))]
 fn check_last(stations: &[u8], last: usize) -> Result<(), Refusal>
     requires { last + 1 ≡ rows_of stations.now }
     ensures { result ≡ only_if (station_ok stations.now last) (Refusal.Station last) }
@@ -23,7 +24,8 @@ fn check_last(stations: &[u8], last: usize) -> Result<(), Refusal>
 }
 
 // The first row at fault. A row above the last has to find a row to go on to; what it finds goes into the table, by which the rights' rules
-// walk down the river. The last row's place keeps the number that stands for none.
+// walk down the river, and the first row that finds none is left with (`let .. else`). The rows are counted: a row's number is its place in the
+// table and its refusal's. The last row's place keeps the number that stands for none.
 pub fn check_stations(stations: &[u8], below: &mut [u8; 64]) -> Result<(), Refusal>
     requires { (0 < rows_of stations.now) × (rows_of stations.now ≤ 64) × (below.old ≡ replicate 64 255) }
     ensures value { result ≡ stations_verdict stations.now }

@@ -1,12 +1,14 @@
-// The rules of a right.
-ghost use Rattle.std.specs.Prelude.{List, ◌≡◌, ℕ, ◌≤◌, ◌<◌};
+// The rules of a right. A right is told by the bodies, its place and its record: the rules of the file are those of the right at a place
+// (`records`), and what they ask of the record is read once, before them.
+ghost use Rattle.std.specs.Prelude.{List, ◌≡◌, ℕ, ◌≤◌, ◌<◌, MatchOption};
 ghost use Rattle.general.specs.Sums.{sum_to};
-ghost use Rattle.records.specs.Records.{right_count, return_percent};
-ghost use Rattle.filerules.specs.FileRules.{date_ok, kind_known, limit_ok, heading_ok, below_reservoir, at_reservoir, source_ok, point_ok, each_point_ok, points_ok, diversion_ok, returns_ok, unused_ok, amounts_ok, earlier, right_rises, right_ok};
+ghost use Rattle.records.specs.Records.{rows_of, reservoir_count, reservoir_record, pattern_count, right_count, return_percent};
+ghost use Rattle.filerules.specs.FileRules.{date_ok, kind_known, limit_ok, heading_ok, source_ok, point_ok, each_point_ok, points_ok, diversion_ok, returns_ok, unused_ok, earlier, right_rises, right_ok};
 ghost use Rattle.records.specs.Table.{GoodRows, TableFor, ReservoirsOn};
 
 use numbers::bytes::{all_at_most, byte_sum};
 use numbers::{all_below, in_range};
+use records::bodies::Bodies;
 use records::network::on_path;
 use records::reservoirs::reservoir_at;
 use records::rights::{Kind, RightRecord, kind_byte, return_percent, return_row, right_at};
@@ -50,23 +52,15 @@ fn heading_ok(n: usize, r: RightRecord) -> bool
         & limit_ok(r.kind, r.limit)
 }
 
-// Whether the row is on the path of reservoir v. The promise is for the stations that the table was made from.
-fn below_reservoir(below: &[u8; 64], reservoirs: &[u8], v: usize, row: usize) -> bool
-    requires { ReservoirsOn below.now reservoirs.now }
-    ensures { (st : List ℕ) → TableFor st below.now → GoodRows st reservoirs.now → result ≡ below_reservoir st reservoirs.now v row }
+// The row of reservoir v, where there is one.
+fn reservoir_row(reservoirs: &[u8], v: usize) -> Option<usize>
+    ensures { MatchOption result (reservoir_count reservoirs.now ≤ v) (λ row. (v < reservoir_count reservoirs.now) × (row ≡ (reservoir_record reservoirs.now v).row)) }
 {
-    v < reservoirs.len() / 68 && on_path(below, usize::from(reservoir_at(reservoirs, v).row), row)
+    (v < reservoirs.len() / 68).then(|| usize::from(reservoir_at(reservoirs, v).row))
 }
 
-// Whether the row is that of reservoir v.
-#[tactic(auto, using(general::proofs::Tests::joins), unfolding(crate::specs::FileRules::at_reservoir))]
-fn at_reservoir(reservoirs: &[u8], v: usize, row: u8) -> bool
-    ensures { result ≡ at_reservoir reservoirs.now v row }
-{
-    v < reservoirs.len() / 68 && row == reservoir_at(reservoirs, v).row
-}
-
-// The reservoir that the right names, and where the right stands to it. Only a project right needs a walk down the river.
+// The reservoir that the right names, and where the right stands to it. Only a project right needs a walk down the river. The promise is for the
+// stations that the table was made from.
 #[tactic(auto, unfolding(crate::specs::FileRules::source_ok))]
 fn source_ok(below: &[u8; 64], reservoirs: &[u8], r: RightRecord) -> bool
     requires { ReservoirsOn below.now reservoirs.now }
@@ -74,10 +68,11 @@ fn source_ok(below: &[u8; 64], reservoirs: &[u8], r: RightRecord) -> bool
 {
     let kind = r.kind;
     let v = usize::from(r.reservoir);
+    let row = usize::from(r.row);
     match kind {
         Kind::Direct | Kind::Instream => r.reservoir == 255,
-        Kind::Project => below_reservoir(below, reservoirs, v, usize::from(r.row)),
-        Kind::Storage => at_reservoir(reservoirs, v, r.row),
+        Kind::Project => reservoir_row(reservoirs, v).is_some_and(|from| on_path(below, from, row)),
+        Kind::Storage => reservoir_row(reservoirs, v) == Some(row),
     }
 }
 
@@ -90,11 +85,14 @@ fn point_ok(n: usize, from: usize, row: usize, percent: u8) -> bool
 
 // Whether the first pairs, as many as there are points, are good return points.
 #[tactic(auto, unfolding(crate::specs::FileRules::each_point_ok))]
-fn each_point_ok(n: usize, from: usize, rights: &[u8], i: usize, points: usize) -> bool
-    requires { (i < right_count rights.now) × (points ≤ 4) }
-    ensures { result ≡ each_point_ok n from rights.now i points }
+fn each_point_ok(bodies: &Bodies<'_>, i: usize, r: RightRecord) -> bool
+    requires { (i < right_count bodies.now.rights.now) × (r.points ≤ 4) }
+    ensures { result ≡ each_point_ok (rows_of bodies.now.stations.now) r.row bodies.now.rights.now i r.points }
 {
-    all_below(points, |k| {
+    let n = bodies.rows();
+    let from = usize::from(r.row);
+    let rights = bodies.rights;
+    all_below(usize::from(r.points), |k| {
         let row = usize::from(return_row(rights, i, k));
         point_ok(n, from, row, return_percent(rights, i, k))
     })
@@ -111,36 +109,36 @@ fn percent_sum(rights: &[u8], i: usize, points: usize) -> u32
 
 // The rules of a right that has return points.
 #[tactic(auto, using(general::proofs::Tests::joins), unfolding(crate::specs::FileRules::points_ok))]
-fn points_ok(n: usize, np: usize, rights: &[u8], i: usize, r: RightRecord) -> bool
-    requires { (i < right_count rights.now) × (r.points ≤ 4) }
-    ensures { result ≡ points_ok n np rights.now i r }
+fn points_ok(bodies: &Bodies<'_>, i: usize, r: RightRecord) -> bool
+    requires { (i < right_count bodies.now.rights.now) × (r.points ≤ 4) }
+    ensures { result ≡ points_ok (rows_of bodies.now.stations.now) (pattern_count bodies.now.patterns.now) bodies.now.rights.now i r }
 {
-    let points = usize::from(r.points);
     (r.efficiency <= 100)
-        & (usize::from(r.pattern) < np)
-        & each_point_ok(n, usize::from(r.row), rights, i, points)
-        & (percent_sum(rights, i, points) == 100)
+        & (usize::from(r.pattern) < bodies.pattern_count())
+        & each_point_ok(bodies, i, r)
+        & (percent_sum(bodies.rights, i, usize::from(r.points)) == 100)
 }
 
 // The rules of what a diversion consumes and returns. One without return points consumes all.
-fn diversion_ok(n: usize, np: usize, rights: &[u8], i: usize, r: RightRecord) -> bool
-    requires { (i < right_count rights.now) × (r.points ≤ 4) }
-    ensures { result ≡ diversion_ok n np rights.now i r }
+#[tactic(auto, using(general::proofs::Tests::joins), unfolding(crate::specs::FileRules::diversion_ok))]
+fn diversion_ok(bodies: &Bodies<'_>, i: usize, r: RightRecord) -> bool
+    requires { (i < right_count bodies.now.rights.now) × (r.points ≤ 4) }
+    ensures { result ≡ diversion_ok (rows_of bodies.now.stations.now) (pattern_count bodies.now.patterns.now) bodies.now.rights.now i r }
 {
     if r.points == 0 {
         return (r.efficiency == 100) & (r.pattern == 255);
     }
-    points_ok(n, np, rights, i, r)
+    points_ok(bodies, i, r)
 }
 
 #[tactic(auto, using(general::proofs::Tests::joins), unfolding(crate::specs::FileRules::returns_ok, crate::specs::FileRules::undiverted_ok))]
-fn returns_ok(n: usize, np: usize, rights: &[u8], i: usize, r: RightRecord) -> bool
-    requires { (i < right_count rights.now) × (r.points ≤ 4) }
-    ensures { result ≡ returns_ok r.kind n np rights.now i r }
+fn returns_ok(bodies: &Bodies<'_>, i: usize, r: RightRecord) -> bool
+    requires { (i < right_count bodies.now.rights.now) × (r.points ≤ 4) }
+    ensures { result ≡ returns_ok r.kind (rows_of bodies.now.stations.now) (pattern_count bodies.now.patterns.now) bodies.now.rights.now i r }
 {
     let kind = r.kind;
     match kind {
-        Kind::Direct | Kind::Project => diversion_ok(n, np, rights, i, r),
+        Kind::Direct | Kind::Project => diversion_ok(bodies, i, r),
         Kind::Instream | Kind::Storage => {
             (r.efficiency == 0) & (r.pattern == 255) & (r.points == 0)
         }
@@ -158,14 +156,6 @@ fn unused_ok(rights: &[u8], i: usize, points: usize) -> bool
     })
 }
 
-#[tactic(auto, unfolding(crate::specs::FileRules::amounts_ok, records::specs::Records::amount_at, numbers::specs::Bytes::all_at_most))]
-fn amounts_ok(rights: &[u8], i: usize) -> bool
-    requires { i < right_count rights.now }
-    ensures { result ≡ amounts_ok rights.now i }
-{
-    all_at_most(rights, 76 * i + 20, 4, 12, 1000000000)
-}
-
 // Whether one right comes before another in the order of service.
 #[tactic(auto, using(general::proofs::Tests::joins), unfolding(crate::specs::FileRules::earlier))]
 fn is_earlier(a: RightRecord, b: RightRecord) -> bool
@@ -174,7 +164,7 @@ fn is_earlier(a: RightRecord, b: RightRecord) -> bool
     (a.date, a.permit) < (b.date, b.permit)
 }
 
-// The first right has none before it.
+// The first right has none before it: one line, as `number_rises` of stations.
 #[tactic(auto, unfolding(crate::specs::FileRules::right_rises))]
 fn right_rises(rights: &[u8], i: usize) -> bool
     requires { i < right_count rights.now }
@@ -183,30 +173,25 @@ fn right_rises(rights: &[u8], i: usize) -> bool
     i == 0 || is_earlier(right_at(rights, i - 1), right_at(rights, i))
 }
 
-// All rules of one right; np is the number of patterns.
-pub fn right_ok(
-    stations: &[u8],
-    below: &[u8; 64],
-    reservoirs: &[u8],
-    np: usize,
-    rights: &[u8],
-    i: usize,
-) -> bool
-    requires { (i < right_count rights.now) × TableFor stations.now below.now × GoodRows stations.now reservoirs.now }
-    ensures { result ≡ right_ok stations.now reservoirs.now np rights.now i }
+// All rules of one right.
+#[tactic(auto, using(general::proofs::Tests::joins), unfolding(crate::specs::FileRules::right_ok, crate::specs::FileRules::amounts_ok, records::specs::Records::amount_at, numbers::specs::Bytes::all_at_most))]
+pub fn right_ok(bodies: &Bodies<'_>, below: &[u8; 64], i: usize) -> bool
+    requires { (i < right_count bodies.now.rights.now) × TableFor bodies.now.stations.now below.now × GoodRows bodies.now.stations.now bodies.now.reservoirs.now }
+    ensures { result ≡ right_ok bodies.now.stations.now bodies.now.reservoirs.now (pattern_count bodies.now.patterns.now) bodies.now.rights.now i }
 {
+    let rights = bodies.rights;
     // The kind and the number of points are settled before any rule goes by them.
     if !kind_known(rights, i) {
         return false;
     }
     let r = right_at(rights, i);
-    let n = stations.len() / 8;
-    if !heading_ok(n, r) {
+    if !heading_ok(bodies.rows(), r) {
         return false;
     }
-    source_ok(below, reservoirs, r)
-        & returns_ok(n, np, rights, i, r)
+    source_ok(below, bodies.reservoirs, r)
+        & returns_ok(bodies, i, r)
         & unused_ok(rights, i, usize::from(r.points))
-        & amounts_ok(rights, i)
+        // each month's amount
+        & all_at_most(rights, 76 * i + 20, 4, 12, 1000000000)
         & right_rises(rights, i)
 }

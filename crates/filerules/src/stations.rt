@@ -7,7 +7,7 @@ use numbers::bytes::three_zeros;
 use numbers::in_range;
 use records::stations::station_at;
 
-// The first row has none before it.
+// The first row has none before it. This, `right_rises` and the book's `is_rising` are one line each, and no shorter by one function with a closure.
 #[tactic(auto, unfolding(crate::specs::FileRules::number_rises))]
 fn number_rises(stations: &[u8], row: usize) -> bool
     requires { row < rows_of stations.now }

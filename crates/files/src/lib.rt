@@ -15,7 +15,7 @@ pub mod words;
 
 use reasons::fail;
 
-// Room for a file, for a block of one, or for a text.
+// Room for a file, for a block of one, or for a text: without a heap it is an array, and the part that is read is handed out of it.
 pub const FILE_ROOM: usize = 65536;
 
 // Why a read failed, and how many bytes were read before it.
@@ -75,7 +75,7 @@ pub fn read_file<'a, R: Files>(rt: &R, path: &[u8], buf: &'a mut [u8]) -> io::Re
     Ok(&buf[..n])
 }
 
-// The same. A file that can't be opened or read counts as empty, and the reason goes to standard error.
+// The same. A file that can't be opened or read counts as empty, since each program lists it as one, and the reason goes to standard error.
 pub fn read_whole<'a, R: Files + Eprint>(rt: &R, path: &[u8], buf: &'a mut [u8]) -> &'a [u8]
     ensures { length result.now ≤ length buf.old }
 {

@@ -7,10 +7,9 @@ use std::io;
 pub fn fail<R: Eprint>(rt: &R, what: &[u8], error: io::Error) {
     let words = InlineText::<256>::of(error);
     let all = words.as_str();
-    let reason = match all.rsplit_once(" (os error ") {
-        Some((before, _)) => before,
-        None => all,
-    };
+    let reason = all
+        .rsplit_once(" (os error ")
+        .map_or(all, |(before, _)| before);
     // A name that is no text is told with its other bytes as \x and two digits.
     let _ = match std::str::from_utf8(what) {
         Ok(name) => eprintln!(rt; "{name}: {reason}"),

@@ -1,4 +1,4 @@
-// The words of the command line.
+// The words of the command line. They are asked for by number, one at a time: a list of them would need a heap.
 ghost use Rattle.std.specs.Prelude.{◌≤◌, length};
 
 use std::env::FillError;
@@ -14,7 +14,8 @@ pub fn word_count<R: Env>(rt: &R) -> usize {
         .unwrap_or(usize::MAX)
 }
 
-// Word i, which is put at the start of buf: an empty one where it is missing or longer than buf.
+// Word i, which is put at the start of buf: an empty one where it is missing or longer than buf. No `Option`: to each program such a word is what
+// an empty one is, a name of no file or of no year.
 pub fn word<'a, R: Env>(rt: &R, i: usize, buf: &'a mut [u8]) -> &'a [u8]
     ensures { length result.now ≤ length buf.old }
 {

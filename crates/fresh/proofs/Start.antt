@@ -5,38 +5,22 @@ use Rattle.rules.specs.Accepted.{Accepted}
 use mathlib.Core.Path.{◌≡◌, refl, sym, ap, ◌∙◌}
 use mathlib.Core.Bool.{false, true}
 use mathlib.Core.List.{List, [], ◌∷◌, map}
-use Prim.Native.Nat.{ℕ, zero, suc, ◌+◌, ◌≤◌, ◌<◌}
+use Prim.Native.Nat.{ℕ, zero, suc, ◌≤◌, ◌<◌}
 use native.Mathlib.Decide.{dec_lt}
 use native.Mathlib.Omega.{arith}
 use lib.Dec.{ltb}
-use lib.ListN.{length, get_or, set, replicate, length-set, get_or-eq_default}
-use lib.Seq.{get_or-set_same, get_or-set_other}
+use lib.ListN.{length, get_or, replicate, get_or-eq_default}
 use Rattle.general.proofs.Lists.{get_d-zeros, get_d-map-in}
-use Rattle.general.proofs.Tests.{by_eqb, only_none}
+use Rattle.general.proofs.Tests.{only_none}
 use Rattle.places.specs.Board.{board_length, month_place, storage_place, marks_place, taken_place, due_place, word_place, storage_at}
 use Rattle.rules.specs.Basin.{Basin, Reservoir, no_reservoir, rows}
 use Rattle.rules.specs.Tally.{fresh_carried, fresh_start}
 use Rattle.sections.specs.File.{section_of}
-use Rattle.records.specs.Records.{reservoir_count, reservoir_record, reservoir_of, reservoirs_of, bodies, basin_of}
+use Rattle.records.specs.Records.{reservoir_count, reservoir_of, reservoirs_of, bodies, basin_of}
 use Rattle.records.proofs.Decoded.{reservoirs-are, reservoir-is}
 use Rattle.boards.specs.Board.{word_of, possible}
 use Rattle.boards.proofs.Board.{word_none, board-told, board-length}
 use Rattle.fresh.specs.Fresh.{fresh_board, Started}
-
--- ---- one reservoir after another
-
-pub start_none : (rs bd : List ℕ) → Started rs 0 bd bd
-start_none rs bd = record { size = refl; storages = λ v h. absurd (omega arith); kept = λ p h. refl }
-
-module _ (rs : List ℕ) (k : ℕ) (bd bd' : List ℕ) (w : Started rs k bd bd') where
-  pub start-more : (p x : ℕ) → p ≡ storage_place k → x ≡ (reservoir_record rs k).start → storage_place k < length bd → Started rs (k + 1) bd (set bd' p x)
-  start-more p x ep ex on = record {
-    size = length-set bd' p x ∙ w.size;
-    storages = λ v h. by_eqb v k (λ _. storage_at (set bd' p x) v ≡ (reservoir_record rs v).start)
-        (λ e. rw (ep, e) (get_or-set_same bd' (storage_place k) x 0 (omega (arith, on, w.size)) ∙ ex))
-        (λ e. get_or-set_other bd' p (storage_place v) x 0 (λ z. e (omega (arith, z, ep))) ∙ w.storages v (omega (arith, h, e)));
-    kept = λ q h. get_or-set_other bd' p q x 0 (λ z. h k (omega arith) (z ∙ ep)) ∙ w.kept q (λ v l. h v (omega arith));
-  }
 
 -- ---- from a board of zeros
 

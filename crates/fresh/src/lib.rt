@@ -1,8 +1,7 @@
 // The fresh board of a basin.
 #![tactic(auto)]
 
-ghost use Rattle.std.specs.Prelude.{◌≡◌, ◌≤◌, length};
-ghost use Rattle.places.specs.Board.{board_length};
+ghost use Rattle.std.specs.Prelude.{◌≡◌, ◌≤◌};
 ghost use Rattle.records.specs.Records.{reservoir_count};
 ghost use Rattle.answers.specs.Answers.{verdict_answer};
 ghost use Rattle.fresh.specs.Fresh.{fresh_of, fresh_told, Started};
@@ -13,9 +12,9 @@ use records::bodies::Bodies;
 use records::reservoirs::reservoir_at;
 use rules::Refusal;
 
-// The starting storage of each reservoir.
-fn store_starts(reservoirs: &[u8], board: &mut [u64])
-    requires { (reservoir_count reservoirs.now ≤ 8) × (length board.old ≡ board_length) }
+// The starting storage of each reservoir. The reservoirs are counted: the number of a reservoir tells both its record and its place on the board.
+fn store_starts(reservoirs: &[u8], board: &mut [u64; BOARD_LENGTH])
+    requires { reservoir_count reservoirs.now ≤ 8 }
     ensures { Started reservoirs.now (reservoir_count reservoirs.now) board.old board.new }
 {
     let n = reservoirs.len() / 68;
@@ -30,9 +29,9 @@ pub fn fresh(file: &[u8], board: &mut [u64]) -> Result<(), Refusal>
     ensures { fresh_told (verdict_answer result) board.new ≡ fresh_of file.now board.old }
 {
     check(file)?;
-    if board.len() != BOARD_LENGTH {
+    let Some(board) = board.as_mut_array::<BOARD_LENGTH>() else {
         return Err(Refusal::Lists);
-    }
+    };
     board.fill(0);
     store_starts(Bodies::of(file).reservoirs, board);
     Ok(())

@@ -125,9 +125,9 @@ module _ (w i : ℕ) where
 
 -- ---- the language's words: one bit, and what a word has of it
 
-pub and-bit : (w i : ℕ) → bit_and w (2 ^ i) ≡ only (bit w i) (2 ^ i)
+pub and_bit : (w i : ℕ) → bit_and w (2 ^ i) ≡ only (bit w i) (2 ^ i)
 unfolding bit
-and-bit w i =
+and_bit w i =
     let up : 1 + i ≡ suc i = omega arith in
     let one : 2 ^ (1 + i) - 2 ^ i ≡ 2 ^ i = rw (up, pow-suc 2 i) (omega arith) in
     ap (bit_and w) (sym one) ∙ and_high w 1 i ∙ by_eqb (w / 2 ^ i % 2) 1 (λ t. w / 2 ^ i % 2 * 2 ^ i ≡ only t (2 ^ i)) (λ e. rw e (omega arith)) (λ n. let z : w / 2 ^ i % 2 ≡ 0 = omega (arith, n) in rw z (omega arith))

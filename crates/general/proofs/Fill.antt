@@ -1,12 +1,12 @@
 -- A list that a loop fills from the front, one element a turn. Assumes nothing.
-use mathlib.Core.Path.{◌≡◌}
+use mathlib.Core.Path.{◌≡◌, ap, ◌∙◌}
 use mathlib.Core.List.{List, ◌++◌, append_assoc}
-use Prim.Native.Nat.{ℕ, suc, ◌+◌, ◌-◌, ◌<◌}
+use Prim.Native.Nat.{ℕ, suc, ◌+◌, ◌-◌, ◌≤◌, ◌<◌}
 use native.Mathlib.Numerals.{add-one}
 use native.Mathlib.Omega.{arith}
-use lib.ListN.{length, get_or, drop, set, replicate}
+use lib.ListN.{length, get_or, take, drop, set, replicate, length-replicate}
 use Rattle.std.proofs.lemmas.List.{drop-replicate}
-use lib.Seq.{set_at}
+use lib.Seq.{set_at, length-take-le}
 use Rattle.general.specs.Tables.{tab}
 use Rattle.general.proofs.Tables.{tab-length, tab-filled}
 
@@ -25,6 +25,8 @@ module _ {A : Type 0} (f : ℕ → A) (z : A) where
       let e : n - k ≡ suc (n - (k + 1)) = omega arith in
       rw (el, ev, add-one k, e, set_at (tab k f) z (replicate (n - (k + 1)) z) (f k) k (tab-length f k), append_assoc, add-one k)
 
-  -- a loop over the first k of n places
-  pub fill_front : (d : A) (n k : ℕ) (l : List A) → length l ≡ k → ((j : ℕ) → j < k → get_or l j d ≡ f j) → l ++ drop k (replicate n z) ≡ filled f z n k
-  fill_front d n k l e h = λ t. tab-filled f l k d e h t ++ drop-replicate k n z t
+  -- a loop over the first k places of a list of n
+  pub fill_front : (d : A) (n k : ℕ) (l t : List A) → k ≤ n → t ≡ replicate n z → length l ≡ length (take k t) → ((j : ℕ) → j < k → get_or l j d ≡ f j) → l ++ drop k t ≡ filled f z n k
+  fill_front d n k l t g r e h =
+      let m : length l ≡ k = e ∙ ap (λ x. length (take k x)) r ∙ length-take-le k (replicate n z) (omega (arith, length-replicate n z)) in
+      rw r (λ i. tab-filled f l k d m h i ++ drop-replicate k n z i)

@@ -1,12 +1,12 @@
 -- Facts of get_or and set that the library lacks. Assumes nothing.
-use mathlib.Core.Path.{◌≡◌, refl, sym, ap, ◌∙◌, subst}
+use mathlib.Core.Path.{◌≡◌, refl, sym, ap, subst}
 use mathlib.Core.Bool.{Bool, true, false, cond}
 use mathlib.Core.List.{List, [], ◌∷◌, ◌++◌, map}
 use Prim.Native.Nat.{ℕ, zero, suc, ◌+◌, ◌-◌, ◌≤◌, ◌<◌}
 use native.Mathlib.Omega.{arith}
 use lib.Dec.{eqb}
 use lib.ListN.{length, get_or, set, drop, replicate}
-use lib.Seq.{get_or-set_same, get_or-set_other, ext_get_or}
+use lib.Seq.{get_or-set_same, get_or-set_other}
 use Rattle.general.specs.Sums.{only}
 use Rattle.general.specs.Tables.{All}
 use Rattle.general.proofs.Tests.{by_eqb}
@@ -54,25 +54,6 @@ pub all-at-place : {A : Type 0} (P : A → Type 0) (l : List A) (d : A) → All 
 all-at-place P [] d h i k = absurd (omega arith)
 all-at-place P (x ∷ l) d h zero k = h.0
 all-at-place P (x ∷ l) d h (suc i) k = all-at-place P l d h.1 i (omega arith)
-
--- ---- a list that a loop writes over from the front: its first k places are those of l
-
-pub record Written {A : Type 0} (d : A) (l x : List A) (k : ℕ) : Type 0 where
-  pub same : (j : ℕ) → j < k → get_or x j d ≡ get_or l j d
-
-module _ {A : Type 0} (d : A) (l x : List A) where
-  pub written_none : Written d l x 0
-  written_none = record { same = λ j h. absurd (omega arith) }
-
-  pub written-more : (k : ℕ) (v : A) → k < length x → v ≡ get_or l k d → Written d l x k → Written d l (set x k v) (k + 1)
-  written-more k v h e w = record {
-    same = λ j m. by_eqb j k (λ _. get_or (set x k v) j d ≡ get_or l j d)
-        (λ z. rw z (get_or-set_same x k v d h ∙ e))
-        (λ z. get_or-set_other x k j v d z ∙ w.same j (omega arith));
-  }
-
-  pub written_all : (k : ℕ) → length x ≡ length l → length x ≤ k → Written d l x k → x ≡ l
-  written_all k e h w = ext_get_or d x l e (λ j m. w.same j (omega arith))
 
 -- a place of a list that a function maps, whatever the defaults
 pub get_d-map-in : {A B : Type 0} (f : A → B) (l : List A) (i : ℕ) (d : B) (e : A) → i < length l → get_or (map f l) i d ≡ f (get_or l i e)

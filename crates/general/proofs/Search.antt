@@ -5,7 +5,16 @@ use mathlib.Core.Logic.{◌≢◌}
 use mathlib.Core.Bool.{Bool, true, false, cond, not, ◌||◌}
 use mathlib.Core.List.{List, [], ◌∷◌}
 use native.Mathlib.Numerals.{add-one}
-use Rattle.std.specs.List.{find, range_with_len}
+use denote.Ref.{Bor}
+use denote.Param.Members.{Mut}
+use Rattle.std.specs.declared.ops.Range.{Range}
+use Rattle.std.specs.Fn.{CalledAt}
+use Rattle.std.specs.Iterator.{YieldsThen}
+use Rattle.std.specs.List.{FoldsTo, find, range_with_len}
+use Rattle.std.proofs.iter.Yields.{nat_range_steps}
+use Rattle.std.proofs.lemmas.Iterator.{YieldsList-from_range}
+use Rattle.std.proofs.lemmas.Iterator.Adapters.{option_map_id}
+use Rattle.std.proofs.lemmas.Iterator.Search.{find_from_yields_List}
 use Prim.Native.Nat.{ℕ, zero, suc, ◌+◌, ◌-◌, ◌≤◌, ◌<◌}
 use native.Mathlib.Decide.{dec_lt}
 use native.Mathlib.Omega.{arith}
@@ -165,3 +174,9 @@ pub found-first : (t : ℕ → Bool) (n i : ℕ) → find t (range_with_len i n)
 unfolding first_at
 found-first t zero i = refl
 found-first t (suc n) i = elim (t i) as (λ b. cond b (Some i) (find t (range_with_len (i + 1) n)) ≡ elim b [ true ↦ Some i | false ↦ first_at n (suc i) t ]) [ true ↦ refl | false ↦ found-first t n (i + 1) ∙ ap (λ (j : ℕ). first_at n j t) (add-one i) ]
+
+-- what the library's search of a range turns up
+module _ {F : Type 0} {g : Mut F (Bor ℕ × Unit {0}) Bool} (s u : Range ℕ) (f : F) (r : Option ℕ)
+    (d : (xs : List ℕ) × (j : F) × YieldsThen nat_range_steps s xs r u × FoldsTo (λ p x q. CalledAt g p x false q) f xs j × MatchOption r (Unit {0}) (λ x. (h : F) × CalledAt g j x true h)) where
+  pub find-first : (t : ℕ → Bool) (i j : ℕ) → s ≡ record { start = i; end = j } → ((x : ℕ) (b : Bool) (q : F) → CalledAt g f x b q → (q ≡ f) × (b ≡ t x)) → r ≡ first_at (j - i) i t
+  find-first t i j e k = sym (option_map_id r) ∙ find_from_yields_List t u f r d (YieldsList-from_range i j (j - i) e refl) k ∙ found-first t (j - i) i

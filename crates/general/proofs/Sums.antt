@@ -1,5 +1,5 @@
 -- Laws of sums. Assumes nothing.
-use mathlib.Core.Path.{◌≡◌, refl, ◌∙◌, ap}
+use mathlib.Core.Path.{◌≡◌, refl, sym, ◌∙◌, ap}
 use mathlib.Core.Logic.{◌≢◌}
 use mathlib.Core.Bool.{Bool, true, false}
 use mathlib.Core.List.{List, [], ◌∷◌, ◌++◌, map}
@@ -11,6 +11,7 @@ use lib.Dec.{eqb}
 use lib.ListN.{length, get_or, set, take, drop, length-drop}
 use lib.Seq.{get_or-drop}
 use Rattle.std.specs.List as std
+use Rattle.std.proofs.lemmas.List.FromFn.{sum_by-map-range_with_len_more}
 use Rattle.std.proofs.lemmas.List.Sums.{sum_by_more}
 use lib.IntN.{ℤ, pos}
 use Rattle.general.specs.Sums.{sum_over, sum_over_ℤ, sum, sum_to, up_to, sum_to_ℤ, only}
@@ -169,3 +170,12 @@ pub sum-part : (l : List ℕ) (at n : ℕ) → at + n ≤ length l → std.sum (
 unfolding sum_to
 sum-part l at zero h = refl
 sum-part l at (suc n) h = rw (← add-one n, sum_by_more (λ x. x) (drop at l) n 0 (omega (arith, length-drop at l)), sum-part l at n (omega arith), get_or-drop at l n 0)
+
+-- the library's sum of what a function makes of a range
+pub sum-range : (f : ℕ → ℕ) (n : ℕ) → std.sum (map f (std.range_with_len 0 n)) ≡ sum_to n f
+unfolding sum_to
+sum-range f zero = refl
+sum-range f (suc n) =
+    ap (λ k. std.sum (map f (std.range_with_len 0 k))) (sym (add-one n))
+    ∙ sum_by-map-range_with_len_more (λ x. x) f 0 n n (omega arith)
+    ∙ ap (λ (x : ℕ). x + f n) (sum-range f n)

@@ -3,7 +3,7 @@ use mathlib.Core.Bool.{Bool, true, false, cond, ◌||◌}
 use mathlib.Core.List.{List, [], ◌∷◌}
 use mathlib.Core.Logic.{◌≢◌}
 use mathlib.Core.Path.{◌≡◌, refl, sym, ap, ◌∙◌}
-use Prim.Native.Nat.{ℕ, ◌*◌, ◌≤◌, ◌<◌}
+use Prim.Native.Nat.{ℕ, ◌≤◌, ◌<◌, min}
 use native.Mathlib.Nat.{le_refl}
 use native.Mathlib.Decide.{dec_lt}
 use native.Mathlib.Omega.{arith}
@@ -16,7 +16,6 @@ use Rattle.general.proofs.Tests.{absurd-bool, by_eqb, leb_yes, leb_no, lt_of, no
 use Rattle.rules.specs.Basin.{Station, no_station}
 use Rattle.rules.specs.Turn.{any_on, first_on, number_at}
 use Rattle.rules.proofs.Tight.{first-here, first-later}
-use Rattle.numbers.specs.Bytes.{le32_at}
 use Rattle.records.specs.declared.rights.Kind.{Kind}
 use Rattle.records.specs.declared.rights.Kind.TheVariants.{Direct, Project, Instream, Storage}
 use Rattle.records.specs.Records.{rows_of, station_record, station_of, stations_of}
@@ -26,12 +25,14 @@ use Rattle.records.specs.Table.{path_by}
 use Rattle.river.specs.Arrays.{seen_on}
 use Rattle.records.proofs.Table.{by-self}
 use Rattle.river.proofs.Table.{by_in}
-use Rattle.grants.specs.Grants.{CanSee, seen_by}
+use Rattle.records.specs.declared.stations.StationRecord.{StationRecord}
+use Rattle.grants.specs.declared.grants.Reason.TheVariants.{Called, RiverLow}
+use Rattle.grants.specs.Grants.{CanSee, seen_by, part_of, reason_of, RiverGave}
 use Rattle.grants.specs.Stages.{is_instream}
 
-pub number_is : (s : List ℕ) (row : ℕ) → row < rows_of s → number_at (stations_of s) row ≡ le32_at s (8 * row)
-unfolding number_at stations_of station_of station_record
-number_is s row h = ap (λ (x : Station). x.number) (tab-at (station_of s) (rows_of s) row no_station h)
+pub number_is : (s : List ℕ) (row : ℕ) → row < rows_of s → (station_record s row).number ≡ number_at (stations_of s) row
+unfolding number_at stations_of station_of
+number_is s row h = sym (ap (λ (x : Station). x.number) (tab-at (station_of s) (rows_of s) row no_station h))
 
 -- ---- a short right on the path
 
@@ -114,23 +115,27 @@ seen_low sh a low (x ∷ p) q e = go (get_or sh x false) refl (λ l. seen_low sh
     go true f ih g = let z : ◌≡◌ {A = ℕ} 0 1 = cc in absurd (omega arith)
     go false f ih g = lower (ltb (get_or a x 0) (get_or a low 0)) refl (ih low' g) f
 
--- ---- at the right's own row
+-- ---- at the right's own row, which the code has as i, and at the row q that the look found
 
-pub own_in : (st t : List ℕ) (row : ℕ) → CanSee st t row → row < rows_of st
-own_in st t row o = o.stationed row (by-self t o.row-ok.downhill row o.row-ok.on)
+module _ {st t : List ℕ} {row i : ℕ} (o : CanSee st t row) (e : i ≡ row) where
+  pub own_in : i < rows_of st
+  own_in = rw e (o.stationed row (by-self t o.row-ok.downhill row o.row-ok.on))
 
-module _ (st t a : List ℕ) (sh : List Bool) (row : ℕ) (o : CanSee st t row) where
-  pub called-in : (q : ℕ) → seen_on sh a row (path_by t row) ≡ seen.Called q → q < rows_of st
-  called-in q e = o.stationed q (seen-called sh a row (path_by t row) q e).0
+  module _ (a : List ℕ) (sh : List Bool) {x : Seen} (q : ℕ) (s : x ≡ seen_on sh a i (path_by t i)) where
+    found : {y : Seen} → x ≡ y → seen_on sh a row (path_by t row) ≡ y
+    found f = sym (rw (← e) s) ∙ f
 
-  low-path : (q : ℕ) → seen_on sh a row (path_by t row) ≡ seen.Low q → has q (path_by t row) ≡ true
-  low-path q e = has-once q row (path_by t row) (by-self t o.row-ok.downhill row o.row-ok.on) (seen_low sh a row (path_by t row) q e).on
+    pub called_in : x ≡ seen.Called q → q < rows_of st
+    called_in f = o.stationed q (seen-called sh a row (path_by t row) q (found f)).0
 
-  pub low-in : (q : ℕ) → seen_on sh a row (path_by t row) ≡ seen.Low q → q < rows_of st
-  low-in q e = o.stationed q (low-path q e)
+    low-path : x ≡ seen.Low q → has q (path_by t row) ≡ true
+    low-path f = has-once q row (path_by t row) (by-self t o.row-ok.downhill row o.row-ok.on) (seen_low sh a row (path_by t row) q (found f)).on
 
-  pub low_on : (q : ℕ) → seen_on sh a row (path_by t row) ≡ seen.Low q → q < 64
-  low_on q e = by_in t o.row-ok.downhill row o.row-ok.on q (low-path q e)
+    pub low_in : x ≡ seen.Low q → q < rows_of st
+    low_in f = o.stationed q (low-path f)
+
+    pub low_on : x ≡ seen.Low q → q < 64
+    low_on f = by_in t o.row-ok.downhill row o.row-ok.on q (low-path f)
 
 -- ---- what the code answers
 
@@ -140,3 +145,33 @@ seen-along Direct t a sh row e = refl
 seen-along Project t a sh row e = refl
 seen-along Instream t a sh row e = absurd-bool refl e
 seen-along Storage t a sh row e = refl
+
+others : (k : Kind) → (k ≡ Instream → ⊥) → is_instream k ≡ false
+others Direct n = refl
+others Project n = refl
+others Instream n = absurd (n refl)
+others Storage n = refl
+
+-- y is the record of the station that is named
+module _ {st t : List ℕ} (a : List ℕ) (sh : List Bool) (k : Kind) {row i : ℕ} (ask : ℕ) {y : StationRecord} (o : CanSee st t row) (e : i ≡ row) where
+  pub gave_own : {x : ℕ} → k ≡ Instream → x ≡ min ask (get_or a i 0) → y ≡ station_record st i → RiverGave st t a sh k row ask (record { part = x; reason = RiverLow y.number })
+  unfolding part_of reason_of
+  gave_own z p n = rw (z, ← e) (record { part = p; reason = λ l. ap RiverLow (ap (λ (s : StationRecord). s.number) n ∙ number_is st i (own_in o e)) })
+
+  module _ {x : Seen} (q : ℕ) (u : k ≡ Instream → ⊥) (s : x ≡ seen_on sh a i (path_by t i)) (n : y ≡ station_record st q) where
+    seen-is : {z : Seen} → x ≡ z → seen_by k t a sh row ≡ z
+    seen-is f = seen-along k t a sh row (others k u) ∙ found o e a sh q s f
+
+    pub gave_called : x ≡ seen.Called q → RiverGave st t a sh k row ask (record { part = 0; reason = Called y.number })
+    unfolding part_of reason_of
+    gave_called f = record {
+      part = sym (ap (part_of a ask) (seen-is f));
+      reason = λ l. ap Called (ap (λ (s : StationRecord). s.number) n ∙ number_is st q (called_in o e a sh q s f)) ∙ sym (ap (reason_of st) (seen-is f));
+    }
+
+    pub gave_low : {d : ℕ} → x ≡ seen.Low q → d ≡ min ask (get_or a q 0) → RiverGave st t a sh k row ask (record { part = d; reason = RiverLow y.number })
+    unfolding part_of reason_of
+    gave_low f p = record {
+      part = p ∙ sym (ap (part_of a ask) (seen-is f));
+      reason = λ l. ap RiverLow (ap (λ (s : StationRecord). s.number) n ∙ number_is st q (low_in o e a sh q s f)) ∙ sym (ap (reason_of st) (seen-is f));
+    }

@@ -4,7 +4,7 @@ use mathlib.Core.Path.{◌≡◌, refl, sym, ◌∙◌}
 use Prim.Native.Nat.{ℕ, ◌+◌, ◌-◌, ◌^◌, ◌≤◌, ◌<◌, min}
 use native.Mathlib.Nat.{pow-le-pow_right}
 use native.Mathlib.Omega.{arith}
-use lib.ListN.{length, get_or, set, length-set}
+use lib.ListN.{length, get_or, set}
 use lib.Seq.{get_or-set_other, set-get_or}
 use Rattle.places.specs.Board.{storage_place, marks_place, taken_place, storage_at, marks_at, taken_at}
 use Rattle.rules.specs.Path.{until_row}
@@ -31,16 +31,14 @@ module _ (d : ℕ) (t : List ℕ) (row : ℕ) (f a : List ℕ) where
   idle n Instream = change-idle n (reserved 0) (row ∷ []) f a reserved-zero
   idle n Storage = change-idle n (diverted 0) (path_by t row) f a diverted-zero
 
-  pub taken-nothing : (k : Kind) → d ≡ 0 → Taken k t row d f a f a
-  taken-nothing k z = record { levels = λ n. rw z (idle n k); flow_size = refl; available_size = refl }
+  pub taken_nothing : (k : Kind) → d ≡ 0 → Taken k t row d f a f a
+  taken_nothing k z = record { levels = λ n. rw z (idle n k) }
 
-  pub taken-instream : (k : Kind) → k ≡ Instream → row < length a → d ≤ get_or a row 0 → Taken k t row d f a f (set a row (get_or a row 0 - d))
+  pub taken_instream : (k : Kind) → k ≡ Instream → row < length a → d ≤ get_or a row 0 → Taken k t row d f a f (set a row (get_or a row 0 - d))
   unfolding levels_taken
-  taken-instream k e h l = record {
+  taken_instream k e h l = record {
     levels = λ n. rw e
         (walk-done n row (reserved d) f a f (set a row (get_or a row 0 - d)) (available-here f a row _ h ∙ reserved-level (get_or f row 0) (get_or a row 0) d l) (available-other f a row _));
-    flow_size = refl;
-    available_size = length-set a row (get_or a row 0 - d);
   }
 
 -- ---- the part from storage
@@ -48,15 +46,14 @@ module _ (d : ℕ) (t : List ℕ) (row : ℕ) (f a : List ℕ) where
 module _ (k : Kind) (t rs : List ℕ) (v row lacking : ℕ) (f bd : List ℕ) where
   module _ (e : k ≡ Project) (x : ℕ) (ex : x ≡ min lacking (storage_at bd v)) where
     -- an empty reservoir, or nothing lacking
-    pub drawn-nothing : x ≡ 0 → Drawn k t rs v row lacking f bd f bd 0
+    pub drawn_nothing : x ≡ 0 → Drawn k t rs v row lacking f bd f bd 0
     unfolding drawn_in board_drawn levels_released
-    drawn-nothing z =
+    drawn_nothing z =
         let same : storage_at bd v - 0 ≡ storage_at bd v = omega arith in
         record {
           amount = rw e (sym z ∙ ex);
           board = rw (e, same) (sym (set-get_or bd (storage_place v) 0));
           levels = λ h a. rw e (change-idle h (released 0) (until_row row (path_by t (home_row rs v))) f a released-zero);
-          flow_size = refl;
         }
 
 -- the word of marks is apart from what is stored and taken

@@ -1,7 +1,7 @@
 -- The stages of a turn in the arrays' words, by the kind of the right.
-use Rattle.std.specs.Prelude.{Bool, true, false, not, cond, ◌&&◌, List, [], ◌∷◌, ◌≡◌, ℕ, ◌+◌, ◌-◌, ◌^◌, ◌≤◌, ◌<◌, min, ltb, eqb, length, get_or, set}
+use Rattle.std.specs.Prelude.{Bool, true, false, not, cond, ◌&&◌, List, [], ◌∷◌, ◌≡◌, ℕ, ◌+◌, ◌-◌, ◌^◌, ◌≤◌, ◌<◌, min, ltb, eqb, get_or, set}
 use Rattle.general.specs.Sums.{only}
-use Rattle.places.specs.Board.{storage_place, marks_place, taken_place, board_length, storage_at, marks_at, taken_at, BoardOk}
+use Rattle.places.specs.Board.{storage_place, marks_place, taken_place, storage_at, marks_at, taken_at, Roomy}
 use Rattle.rules.specs.Path.{until_row}
 use Rattle.rules.specs.River.{Level, along, diverted, reserved, released}
 use Rattle.general.specs.Tests.{bit}
@@ -53,7 +53,6 @@ pub record CanAsk (rs ri : List ℕ) (i m : ℕ) (bd : List ℕ) : Type 0 where
   pub place : i < right_count ri
   pub most : i < 256
   pub in-year : m < 12
-  pub size : length bd ≡ board_length
   pub stores : (right_record ri i).kind ≡ Storage → RoomLeft rs (right_record ri i) i bd
 
 -- ---- the river part
@@ -66,15 +65,12 @@ levels_taken Storage d t row l = along (diverted d) (path_by t row) l
 
 pub record CanTake (kind : Kind) (t : List ℕ) (row d : ℕ) (f a : List ℕ) : Type 0 where
   pub on : row < 64
-  pub places : 64 ≤ length a
   pub divert_ok : is_instream kind ≡ false → CanDivert t row d f a
   pub enough : d ≤ get_or a row 0
 
 -- f, a before and f', a' after; the levels however many rows are asked after
 pub record Taken (kind : Kind) (t : List ℕ) (row d : ℕ) (f a f' a' : List ℕ) : Type 0 where
   pub levels : (n : ℕ) → levels_of n f' a' ≡ levels_taken kind d t row (levels_of n f a)
-  pub flow_size : length f' ≡ length f
-  pub available_size : length a' ≡ length a
 
 abbrev pub marked_board : Bool → List ℕ → ℕ → List ℕ
 marked_board t bd v = cond t (set bd marks_place (marks_at bd + 2 ^ v)) bd
@@ -93,14 +89,14 @@ board_stored Storage capacity v i d bd = poured capacity v i d bd
 pub record CanPour (rs : List ℕ) (v i d : ℕ) (bd : List ℕ) : Type 0 where
   pub most : i < 256
   pub small : d ≤ most_amount
-  pub board : BoardOk bd 4000000000000000000
+  pub board : Roomy bd 4000000000000000000
   pub eight : v < 8
   pub there : v < reservoir_count rs
 
 pub record CanFill (kind : Kind) (rs : List ℕ) (v i d : ℕ) (bd : List ℕ) : Type 0 where
   pub most : i < 256
   pub small : d ≤ most_amount
-  pub board : BoardOk bd 4000000000000000000
+  pub board : Roomy bd 4000000000000000000
   pub there : kind ≡ Storage → (v < 8) × (v < reservoir_count rs)
 
 -- ---- the part from storage
@@ -129,11 +125,9 @@ home_row rs v = (reservoir_record rs v).row
 pub record CanDraw (kind : Kind) (t rs : List ℕ) (v lacking : ℕ) (f bd : List ℕ) : Type 0 where
   pub there : kind ≡ Project → (v < reservoir_count rs) × (v < 8)
   pub release_ok : kind ≡ Project → (x : ℕ) → x ≤ lacking → CanRelease t (home_row rs v) x f
-  pub size : length bd ≡ board_length
 
 -- f, bd before and f', bd' after; x is what was drawn
 pub record Drawn (kind : Kind) (t rs : List ℕ) (v row lacking : ℕ) (f bd f' bd' : List ℕ) (x : ℕ) : Type 0 where
   pub amount : x ≡ drawn_in kind lacking v bd
   pub board : bd' ≡ board_drawn kind x v bd
   pub levels : (n : ℕ) (a : List ℕ) → levels_of n f' a ≡ levels_released kind x t (home_row rs v) row (levels_of n f a)
-  pub flow_size : length f' ≡ length f

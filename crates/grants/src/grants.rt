@@ -1,14 +1,14 @@
 // A grant with its reason, and what the river gives.
-ghost use Rattle.std.specs.Prelude.{◌≡◌, ◌<◌};
-ghost use Rattle.rules.specs.Turn.{number_at};
-ghost use Rattle.records.specs.Records.{rows_of, stations_of};
+ghost use Rattle.std.specs.Prelude.{◌≡◌};
 ghost use Rattle.grants.specs.Grants.{why_of, CanSee, RiverGave};
 
-use numbers::bytes::le32;
-use records::rights::Kind;
+use records::rights::{Kind, RightRecord};
+use records::stations::station_at;
+use river::setting::Setting;
 use river::{River, Seen};
 
 // Why a right is short. The called and the river-low case carry the number of the controlling station; a project right's is that of its reservoir.
+// That it is not short is a reason too, the first by 01's numbers, and the reason of a part where nothing is asked.
 #[derive(Clone, Copy)]
 pub enum Reason {
     Met,
@@ -48,28 +48,17 @@ pub struct RiverPart {
     pub reason: Reason,
 }
 
-// The number of the station at a row.
-#[tactic(auto, using(crate::proofs::Looks::number_is))]
-pub fn station_number(stations: &[u8], row: usize) -> u32
-    requires { row < rows_of stations.now }
-    ensures { result ≡ number_at (stations_of stations.now) row }
-{
-    le32(stations, 8 * row)
-}
-
 // What the river gives to a right at a row. An instream right is never called, and looks at its own row only; the others look down their path. A demand of nothing needs no look.
-#[tactic(auto, unfolding(crate::specs::Grants::part_of, crate::specs::Grants::reason_of))]
+#[tactic(auto, unfolding(crate::specs::Grants::part_of, crate::specs::Grants::reason_of), using(crate::proofs::Looks::called_in, crate::proofs::Looks::low_in, crate::proofs::Looks::low_on))]
 pub fn river_part(
-    stations: &[u8],
-    below: &[u8; 64],
+    setting: &Setting,
     river: &River,
     short: &[bool; 64],
-    kind: Kind,
-    row: usize,
+    right: RightRecord,
     demand: u64,
 ) -> RiverPart
-    requires { CanSee stations.now below.now row }
-    ensures { RiverGave stations.now below.now river.now.available short.now kind row demand result }
+    requires { let s = setting.now in CanSee s.bodies.now.stations.now s.below.now right.row }
+    ensures { let s = setting.now in RiverGave s.bodies.now.stations.now s.below.now river.now.available short.now right.kind right.row demand result }
 {
     if demand == 0 {
         return RiverPart {
@@ -77,21 +66,23 @@ pub fn river_part(
             reason: Reason::Met,
         };
     }
-    if let Kind::Instream = kind {
+    let stations = setting.bodies.stations;
+    let row = usize::from(right.row);
+    if let Kind::Instream = right.kind {
         return RiverPart {
             part: demand.min(river.available[row]),
-            reason: Reason::RiverLow(station_number(stations, row)),
+            reason: Reason::RiverLow(station_at(stations, row).number),
         };
     }
-    let seen = river.look(below, short, row, row);
+    let seen = river.look(setting.below, short, row, row);
     match seen {
         Seen::Called(q) => RiverPart {
             part: 0,
-            reason: Reason::Called(station_number(stations, q)),
+            reason: Reason::Called(station_at(stations, q).number),
         },
         Seen::Low(q) => RiverPart {
             part: demand.min(river.available[q]),
-            reason: Reason::RiverLow(station_number(stations, q)),
+            reason: Reason::RiverLow(station_at(stations, q).number),
         },
     }
 }

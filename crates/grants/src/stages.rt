@@ -1,4 +1,5 @@
-// The stages of a right's turn: its demand, its part from the river, its part from storage.
+// The stages of a right's turn: its demand, its part from the river, its part from storage. Beside its record a right's place is told where its
+// amounts are read, or its place on the board is.
 ghost use Rattle.std.specs.Prelude.{◌≡◌, not, ◌+◌, ◌<◌, min, length};
 ghost use Rattle.general.specs.Sums.{only};
 ghost use Rattle.places.specs.Board.{board_length};
@@ -7,12 +8,14 @@ ghost use Rattle.grants.specs.Stages.{amount_in, ask_of, RoomLeft, ask_in, CanAs
 
 use numbers::bytes::le32;
 use numbers::{bit_of, power};
-use places::board::{MARKS, storage_place, taken_place};
+use places::board::{BOARD_LENGTH, MARKS, storage_place, taken_place};
 use records::reservoirs::reservoir_at;
 use records::rights::{Kind, RightRecord};
 use river::River;
+use river::setting::Setting;
 
-// The amount of month m, if that month is in use.
+// The amount of month m, if that month is in use. The amounts stand behind the part of a record that is read whole, and one is read when it
+// is asked for.
 #[tactic(auto, unfolding(crate::specs::Stages::amount_in, records::specs::Records::amount_at))]
 fn scheduled(rights: &[u8], i: usize, right: RightRecord, m: usize) -> u64
     requires { (i < right_count rights.now) × (m < 12) × (right ≡ right_record rights.now i) }
@@ -35,8 +38,14 @@ fn storage_demand(amount: u64, marked: bool, limit_left: u64, capacity_left: u64
 }
 
 // What a storage right asks for, of an amount scheduled.
-fn storage_ask(reservoirs: &[u8], i: usize, right: RightRecord, amount: u64, board: &[u64]) -> u64
-    requires { (i < 256) × (length board.now ≡ board_length) × RoomLeft reservoirs.now right i board.now }
+fn storage_ask(
+    reservoirs: &[u8],
+    i: usize,
+    right: RightRecord,
+    amount: u64,
+    board: &[u64; BOARD_LENGTH],
+) -> u64
+    requires { (i < 256) × RoomLeft reservoirs.now right i board.now }
     ensures { result ≡ ask_of reservoirs.now right i amount board.now }
 {
     let v = usize::from(right.reservoir);
@@ -50,42 +59,42 @@ fn storage_ask(reservoirs: &[u8], i: usize, right: RightRecord, amount: u64, boa
 // What right i asks for in month m.
 #[tactic(auto, unfolding(crate::specs::Stages::ask_in))]
 pub fn demand_of(
-    reservoirs: &[u8],
-    rights: &[u8],
+    setting: &Setting,
     i: usize,
     right: RightRecord,
     m: usize,
-    board: &[u64],
+    board: &[u64; BOARD_LENGTH],
 ) -> u64
-    requires { (right ≡ right_record rights.now i) × CanAsk reservoirs.now rights.now i m board.now }
-    ensures { result ≡ ask_in right.kind reservoirs.now rights.now i m board.now }
+    requires { let w = setting.now.bodies.now in (right ≡ right_record w.rights.now i) × CanAsk w.reservoirs.now w.rights.now i m board.now }
+    ensures { let w = setting.now.bodies.now in result ≡ ask_in right.kind w.reservoirs.now w.rights.now i m board.now }
 {
-    let amount = scheduled(rights, i, right, m);
+    let amount = scheduled(setting.bodies.rights, i, right, m);
     let kind = right.kind;
     match kind {
         Kind::Direct | Kind::Project | Kind::Instream => amount,
-        Kind::Storage => storage_ask(reservoirs, i, right, amount, board),
+        Kind::Storage => storage_ask(setting.bodies.reservoirs, i, right, amount, board),
     }
 }
 
 // The river part d leaves the river: an instream right's the available flow at its row alone, another's flow and available flow along the path. A part of nothing is no work.
-#[tactic(auto, unfolding(crate::specs::Stages::levels_taken))]
-pub fn take(below: &[u8; 64], river: &mut River, kind: Kind, row: usize, d: u64)
-    requires { CanTake kind below.now row d river.old.flow river.old.available }
-    ensures { Taken kind below.now row d river.old.flow river.old.available river.new.flow river.new.available }
+#[tactic(auto, unfolding(crate::specs::Stages::levels_taken), using(crate::proofs::RightKinds::taken_nothing, crate::proofs::RightKinds::taken_instream))]
+pub fn take(setting: &Setting, river: &mut River, right: RightRecord, d: u64)
+    requires { CanTake right.kind setting.now.below.now right.row d river.old.flow river.old.available }
+    ensures { Taken right.kind setting.now.below.now right.row d river.old.flow river.old.available river.new.flow river.new.available }
 {
     if d == 0 {
         return;
     }
-    if let Kind::Instream = kind {
-        river.available[row] = river.available[row] - d;
+    let row = usize::from(right.row);
+    if let Kind::Instream = right.kind {
+        river.available[row] -= d;
         return;
     }
-    river.divert(below, row, d);
+    river.divert(setting.below, row, d);
 }
 
 // d more in reservoir v, and in the water that right i has taken this year. What fills the reservoir with more than nothing sets its mark.
-fn pour(reservoirs: &[u8], board: &mut [u64], v: usize, i: usize, d: u64)
+fn pour(reservoirs: &[u8], board: &mut [u64; BOARD_LENGTH], v: usize, i: usize, d: u64)
     requires { CanPour reservoirs.now v i d board.old }
     ensures { board.new ≡ poured (capacity_in reservoirs.now v) v i d board.old }
 {
@@ -102,17 +111,24 @@ fn pour(reservoirs: &[u8], board: &mut [u64], v: usize, i: usize, d: u64)
     if held != u64::from(reservoir.capacity) {
         return;
     }
-    board[MARKS] = board[MARKS] + power(v as u64);
+    board[MARKS] += power(v as u64);
 }
 
 // A storage right stores its part; for other kinds nothing happens.
 #[tactic(auto, unfolding(crate::specs::Stages::board_stored))]
-pub fn fill(reservoirs: &[u8], board: &mut [u64], kind: Kind, v: usize, i: usize, d: u64)
-    requires { CanFill kind reservoirs.now v i d board.old }
-    ensures { board.new ≡ board_stored kind (capacity_in reservoirs.now v) v i d board.old }
+pub fn fill(
+    setting: &Setting,
+    board: &mut [u64; BOARD_LENGTH],
+    i: usize,
+    right: RightRecord,
+    d: u64,
+)
+    requires { CanFill right.kind setting.now.bodies.now.reservoirs.now right.reservoir i d board.old }
+    ensures { let v = right.reservoir in board.new ≡ board_stored right.kind (capacity_in setting.now.bodies.now.reservoirs.now v) v i d board.old }
 {
-    if let Kind::Storage = kind {
-        pour(reservoirs, board, v, i, d);
+    if let Kind::Storage = right.kind {
+        let v = usize::from(right.reservoir);
+        pour(setting.bodies.reservoirs, board, v, i, d);
     }
 }
 
@@ -120,21 +136,19 @@ pub fn fill(reservoirs: &[u8], board: &mut [u64], kind: Kind, v: usize, i: usize
 // flow at the reservoir's row and further down, but no longer at the right's.
 #[tactic(auto, unfolding(crate::specs::Stages::drawn_in, crate::specs::Stages::board_drawn, crate::specs::Stages::levels_released))]
 pub fn draw(
-    below: &[u8; 64],
-    reservoirs: &[u8],
+    setting: &Setting,
     river: &mut River,
-    board: &mut [u64],
-    kind: Kind,
-    v: usize,
-    row: usize,
+    board: &mut [u64; BOARD_LENGTH],
+    right: RightRecord,
     lacking: u64,
 ) -> u64
-    requires { CanDraw kind below.now reservoirs.now v lacking river.old.flow board.old }
-    ensures { Drawn kind below.now reservoirs.now v row lacking river.old.flow board.old river.new.flow board.new result × (river.new.available ≡ river.old.available) }
+    requires { let s = setting.now in CanDraw right.kind s.below.now s.bodies.now.reservoirs.now right.reservoir lacking river.old.flow board.old }
+    ensures { let s = setting.now in Drawn right.kind s.below.now s.bodies.now.reservoirs.now right.reservoir right.row lacking river.old.flow board.old river.new.flow board.new result × (river.new.available ≡ river.old.available) }
 {
-    let Kind::Project = kind else {
+    let Kind::Project = right.kind else {
         return 0;
     };
+    let v = usize::from(right.reservoir);
     let storage = storage_place(v);
     let held = board[storage];
     let x = lacking.min(held);
@@ -142,7 +156,8 @@ pub fn draw(
         return 0;
     }
     board[storage] = held - x;
-    let reservoir = reservoir_at(reservoirs, v);
-    river.release(below, usize::from(reservoir.row), row, x);
+    let reservoir = reservoir_at(setting.bodies.reservoirs, v);
+    let home = usize::from(reservoir.row);
+    river.release(setting.below, home, usize::from(right.row), x);
     x
 }

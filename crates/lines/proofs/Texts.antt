@@ -14,7 +14,6 @@ use Rattle.std.proofs.lemmas.List.{get_or-drop}
 use Rattle.rules.specs.Basin.{Right}
 use Rattle.records.specs.Records.{rows_of, reservoir_count, right_count, right_of, rights_of, bodies}
 use Rattle.records.specs.declared.bodies.Bodies.{Bodies}
-use Rattle.records.specs.Bodies.{basin_in}
 use Rattle.records.proofs.Decoded.{right_is, reservoirs-are, rights-are}
 use Rattle.places.specs.Board.{storage_at, due_at}
 use Rattle.boards.specs.Board.{storage_sum, due_sum}
@@ -95,18 +94,18 @@ module _ (l : List ℕ) (first n : ℕ) (h : first + n ≤ length l) where
   pub lost-at : sum (take (first + n - first) (drop first l)) ≡ sum_to n (λ v. get_or l (first + v) 0)
   lost-at = ap sum same-part ∙ part-sum l first n h
 
-module _ (w : Bodies) (report board : List ℕ) (month x y z : ℕ) {t u v : Text} where
+module _ (w : Bodies) (ps report board : List ℕ) (month x y z : ℕ) {t u v : Text} where
   pub month-put : Put 32256 (right_lines month (rights_of w.rights.now) report (right_count w.rights.now)) t u
       → x ≡ sum_to (reservoir_count w.reservoirs.now) (λ v. get_or report (evaporation_place (right_count w.rights.now) (rows_of w.stations.now) v) 0)
       → y ≡ sum_to (reservoir_count w.reservoirs.now) (storage_at board)
       → z ≡ sum_to (rows_of w.stations.now) (λ u. sum_to 11 (λ j. due_at board u (suc j)))
       → Put 109 (end_line month (get_or report (flow_place (right_count w.rights.now) (rows_of w.stations.now - 1)) 0) x y z) u v
-      → Put most_text (month_text (basin_in w) month report board) t v
+      → Put most_text (month_text (bodies w.stations.now w.reservoirs.now ps w.rights.now) month report board) t v
   unfolding month_text outflow_in evaporation_in bodies storage_sum due_sum
   month-put put ex ey ez end =
       let all = put_then put end in
       let lines : List ℕ = right_lines month (rights_of w.rights.now) report (right_count w.rights.now) in
       let outflow : ℕ = get_or report (flow_place (right_count w.rights.now) (rows_of w.stations.now - 1)) 0 in
-      let e : lines ++ end_line month outflow x y z ≡ month_text (basin_in w) month report board =
+      let e : lines ++ end_line month outflow x y z ≡ month_text (bodies w.stations.now w.reservoirs.now ps w.rights.now) month report board =
       rw (rights-are w.rights.now, reservoirs-are w.reservoirs.now, rows_are w.stations.now) (λ i. lines ++ end_line month outflow (ex i) (ey i) (ez i)) in
       put_as e (omega (arith, all.within, ap length e)) all

@@ -1,15 +1,15 @@
 // The lines of a month: one for each right, and the end line.
-ghost use Rattle.std.specs.Prelude.{◌≡◌, ◌^◌, ◌≤◌, ◌<◌, length, sum};
+ghost use Rattle.std.specs.Prelude.{◌≡◌, List, ℕ, ◌^◌, ◌≤◌, ◌<◌, length, sum};
 ghost use Rattle.places.specs.Report.{lines_end};
-ghost use Rattle.records.specs.Records.{right_count, right_of, rights_of};
-ghost use Rattle.records.specs.Bodies.{basin_in};
+ghost use Rattle.records.specs.Records.{right_count, right_of, rights_of, bodies as basin_by};
 ghost use Rattle.listing.specs.Listing.{right_line, right_lines, end_line, month_text};
 ghost use Rattle.lines.specs.Putting.{most_text, CanList, Put};
 
 use crate::text::Text;
 use boards::sums::{due_sum, storage_sum};
 use numbers::bytes::le32;
-use places::report::{FROM_STORAGE, REASON, STATION, flow_place, line_place, rows_end};
+use places::board::BOARD_LENGTH;
+use places::report::{FROM_STORAGE, REASON, STATION, line_place};
 use records::bodies::Bodies;
 
 // The most bytes that the text of a month has.
@@ -60,18 +60,21 @@ fn put_end(text: &mut Text, month: u64, outflow: u64, evaporation: u64, storage:
 }
 
 // The whole month, by its report and the board that it left.
-pub fn put_month(text: &mut Text, month: u64, bodies: &Bodies<'_>, board: &[u64], report: &[u64])
+pub fn put_month(
+    text: &mut Text,
+    month: u64,
+    bodies: &Bodies<'_>,
+    board: &[u64; BOARD_LENGTH],
+    report: &[u64],
+)
     requires { CanList bodies.now board.now report.now text.old }
-    ensures { Put most_text (month_text (basin_in bodies.now) month report.now board.now) text.old text.new }
+    ensures { let b = bodies.now in (ps : List ℕ) → Put most_text (month_text (basin_by b.stations.now b.reservoirs.now ps b.rights.now) month report.now board.now) text.old text.new }
 {
-    let rows = bodies.rows();
-    let n = bodies.reservoir_count();
-    let lines = bodies.right_count();
+    let shape = bodies.shape();
     put_rights(text, month, bodies.rights, report);
-    let outflow = report[flow_place(lines, rows - 1)];
-    let first = rows_end(lines, rows);
-    let evaporation = evaporation_sum(&report[first..first + n]);
-    let storage = storage_sum(n, board);
-    let pending = due_sum(rows, board);
+    let outflow = report[shape.flow_place(shape.rows - 1)];
+    let evaporation = evaporation_sum(&report[shape.rows_end()..shape.deep_place()]);
+    let storage = storage_sum(shape.reservoirs, board);
+    let pending = due_sum(shape.rows, board);
     put_end(text, month, outflow, evaporation, storage, pending);
 }

@@ -1,5 +1,5 @@
 // The text of a listing as it is put together: bytes in a lent list, and how many of them are written.
-ghost use Rattle.std.specs.Prelude.{[], ◌≡◌, ◌+◌, ◌*◌, ◌<◌, ◌≤◌, length, map};
+ghost use Rattle.std.specs.Prelude.{[], ◌≡◌, ◌+◌, ◌*◌, ◌<◌, ◌≤◌, length, map, take};
 ghost use Rattle.listing.specs.Listing.{decimal_text, line_of};
 ghost use Rattle.lines.specs.Putting.{Put};
 
@@ -31,6 +31,15 @@ impl<'a> Text<'a> {
         ensures room { result.room ≡ length list.old }
     {
         Text { list, len: 0 }
+    }
+
+    // A text that goes on after the first `len` bytes of the list, which are written already.
+    pub fn after(list: &'a mut [u8], len: usize) -> Text<'a>
+        requires { len ≤ length list.old }
+        ensures bytes { result.bytes ≡ take len list.old }
+        ensures room { result.room + len ≡ length list.old }
+    {
+        Text { list, len }
     }
 
     // What is written.

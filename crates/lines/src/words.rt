@@ -1,5 +1,6 @@
-// Numbers as text. The digits are put into the list of a text from a place on, and the place after them is handed on, since a text whose length is
-// written with every byte was measured: a listing took a seventh more instructions.
+// Numbers as text. A number fits into the room that is asked for, so that it is put there and then: `write!` would answer a `Result` for each, of
+// which none is an error. The digits are put into the list of a text from a place on, and the place after them is handed on, since a text whose length is
+// written with every byte was measured: a listing took a sixth more instructions.
 ghost use Rattle.std.specs.Prelude.{[], ◌∷◌, ◌≡◌, ◌+◌, ◌*◌, ◌/◌, ◌%◌, ◌≤◌, ◌<◌, length, map, set};
 ghost use Rattle.listing.specs.Listing.{digit as digit_of, decimal_text, line_of};
 ghost use Rattle.lines.specs.Putting.{PutAt};
@@ -8,7 +9,7 @@ fn digit(d: u64) -> u8
     requires { d < 10 }
     ensures { result ≡ digit_of d }
 {
-    48 + d as u8
+    b'0' + d as u8
 }
 
 fn put_pair(out: &mut [u8], at: usize, n: u64)

@@ -50,8 +50,8 @@ module _ (f bd bd' : List ℕ) (size : length bd ≡ board_length) (a : Answer) 
   answer-is = ap (λ (x : Fresh). x.answer) by-file ∙ settled-answer (file_refusal f) f bd
 
   -- The header is put into an empty text, and then l is made.
-  module _ {t u : Text} {out : List ℕ} (empty : t.bytes ≡ []) (room : t.room ≡ length out) (head : Put 32 header t u) (l : Listing) (file : l.file.now ≡ f) (board : l.board.now ≡ bd') (same_length : length bd' ≡ length bd)
-      (report : List ℕ) (report_kept : length l.report.now ≡ length report) (months : l.months ≡ 0) where
+  module _ {t u : Text} {out : List ℕ} (empty : t.bytes ≡ []) (room : t.room ≡ length out) (head : Put 32 header t u) (l : Listing) (file : l.file.now ≡ f) (board : l.board.now ≡ bd')
+      (report : List ℕ) (report_kept : l.report.now ≡ report) (months : l.months ≡ 0) where
     -- all that is put
     opened : {most : ℕ} {line : List ℕ} (o : Step) → most ≤ 82 → Put most line t l.text → record { text = line; standing = standing l; more = l.more } ≡ o → o ≡ opening (file_refusal f) (basin_of f) bd → Opened f bd report out l
     opened {line} o few p e m = record {
@@ -59,7 +59,6 @@ module _ (f bd bd' : List ℕ) (size : length bd ≡ board_length) (a : Answer) 
       within = omega (arith, few, p.within, ap length p.bytes, length-append t.bytes line, ap length empty);
       list = omega (arith, list_kept p, room, ap length empty);
       of_file = file;
-      same_length = ap length board ∙ same_length;
       report_kept = report_kept;
     }
 
@@ -92,12 +91,11 @@ opened-on {f} {bd} {l} w more = go (file_refusal f) refl w.equation
     go (Some a) e q = absurd-bool more (ap (λ (x : Step). x.more) q)
 
 -- what is then in order for the months, with room for any report
-pub opened-order : {f bd report out : List ℕ} {l : Listing} → Opened f bd report out l → l.more ≡ true → length bd ≡ board_length → length report ≡ most_report → InOrder l
-opened-order {f} {l} w more size told =
+pub opened-order : {f bd report out : List ℕ} {l : Listing} → Opened f bd report out l → l.more ≡ true → length report ≡ most_report → InOrder l
+opened-order {f} {l} w more told =
     let on = opened-on w more in
     let facts = accepted-facts f on.0 in record {
       accepted = ap check_of w.of_file ∙ on.0;
-      size = w.same_length ∙ size;
       can = ap (λ (x : List ℕ). possible (basin_of x) l.board.now) w.of_file ∙ on.1;
-      told = omega (arith, w.report_kept, told, ap (λ (x : List ℕ). report_length (basin_of x)) w.of_file, facts.few_rows, facts.few_rights, facts.few_reservoirs);
+      told = omega (arith, ap length w.report_kept, told, ap (λ (x : List ℕ). report_length (basin_of x)) w.of_file, facts.few_rows, facts.few_rights, facts.few_reservoirs);
     }

@@ -15,7 +15,7 @@ use Rattle.listing.specs.Run.{sheet_bytes, Step}
 use Rattle.listing.specs.Steps.{StepMeets, Place, after, Walk, texts_of}
 use Rattle.listing.proofs.Blocks.{walk-join, texts-join}
 use Rattle.lister.specs.declared.Listing.{Listing}
-use Rattle.lister.specs.Lister.{standing, InOrder, CanStep, Stepped, place_in, BlockListed, CanListBlock, SheetsListed, Moves}
+use Rattle.lister.specs.Lister.{standing, InOrder, Stepped, place_in, BlockListed, CanListBlock, SheetsListed, Moves}
 use Rattle.lister.proofs.Lent.{kept_none, kept-then}
 use Rattle.lister.proofs.Stepping.{short-ends}
 
@@ -106,9 +106,6 @@ module _ (block : List ℕ) (l : Listing) (c : CanListBlock block l) where
   sofar-none = record { listed = block_none block false l 0 c.step.in_order (omega arith); going = c.going; none = λ _. refl }
 
   module _ (l₁ : Listing) (used : ℕ) (s : Sofar block l l₁ used) where
-    pub can-step : most_text ≤ l₁.text.room → CanStep l₁
-    can-step room = record { in_order = s.listed.in_order; room = room; counted = omega (arith, c.counted, s.listed.counted, s.listed.used) }
-
     -- where the next sheet is not listed
     pub sheets-end : (sheet_bytes (basin_of l.file.now) + used ≤ length block → most_text ≤ l₁.text.room → ⊥) → SheetsListed block l l₁ used
     sheets-end n = record { listed = s.listed; sheet = λ h. go h used refl; none = s.none }
@@ -152,9 +149,6 @@ module _ (block : List ℕ) (l : Listing) (c : CanListBlock block l) (l₁ : Lis
     listed_as last,
     record { sheet = s.sheet; end = λ e z. end e (λ h. omega (arith, z, s.sheet (omega (arith, h, z)))) (omega (arith, s.none z, c.step.room)) },
   )
-
-  pub rest-step : most_text ≤ l₁.text.room → CanStep l₁
-  rest-step room = record { in_order = s.listed.in_order; room = room; counted = omega (arith, c.counted, s.listed.counted, s.listed.used) }
 
   pub rest-listed : (last : Bool) → last ≡ true → l₁.more ≡ true → (sheet_bytes (basin_of l.file.now) + used ≤ length block → ⊥) → (part : List ℕ) → part ≡ drop used block → (l₂ : Listing) → Stepped part l₁ l₂ → Answered last l₂ (length block)
   rest-listed last last-is going short part part-is l₂ w = subst (λ (t : Bool). Answered t l₂ (length block)) (sym last-is) (

@@ -35,14 +35,13 @@ use Rattle.lister.proofs.Stepping.{short-meets, ended-meets, over-meets, month-m
 -- ---- what is kept
 
 pub kept_none : (l : Listing) → Kept l l
-kept_none l = record { file = refl; same_board = refl; same_report = refl; board = refl; report = refl; text = refl }
+kept_none l = record { file = refl; same_board = refl; same_report = refl; report = refl; text = refl }
 
 pub kept-then : {l l₁ l₂ : Listing} → Kept l l₁ → Kept l₁ l₂ → Kept l l₂
 kept-then a b = record {
   file = b.file ∙ a.file;
   same_board = b.same_board ∙ a.same_board;
   same_report = b.same_report ∙ a.same_report;
-  board = b.board ∙ a.board;
   report = b.report ∙ a.report;
   text = b.text ∙ a.text;
 }
@@ -51,7 +50,6 @@ kept-then a b = record {
 pub ordered : {l l' : Listing} → InOrder l → Kept l l' → possible (basin_of l.file.now) l'.board.now ≡ true → InOrder l'
 ordered {l'} i k can = record {
   accepted = ap check_of k.file ∙ i.accepted;
-  size = k.board ∙ i.size;
   can = ap (λ (f : List ℕ). possible (basin_of f) l'.board.now) k.file ∙ can;
   told = omega (arith, i.told, k.report, ap (λ (f : List ℕ). report_length (basin_of f)) k.file);
 }
@@ -90,7 +88,6 @@ module _ (l : Listing) (can : CanStep l) (bs : Bodies) (e : BodiesOf l.file.now 
     may-go = record {
       accepted = subst Accepted (sym same) acc;
       sheet = ap length decoded ∙ sheet-length n part ∙ long ∙ ap rows (sym same);
-      size = can.in_order.size;
       can = ap (λ (x : Basin). possible x l.board.now) same ∙ can.in_order.can;
       room = subst (λ (x : Basin). report_length x ≤ length l.report.now) (sym same) can.in_order.told;
     }
@@ -109,15 +106,15 @@ module _ (l : Listing) (can : CanStep l) (bs : Bodies) (e : BodiesOf l.file.now 
           refused-as a can.in_order (over-meets b (standing l) part a some_bytes whole r.0) et em (eb ∙ r.1) k q
 
       module _ (z : a.number ≡ 0) where
-        pub may-list : length bd' ≡ length l.board.now → length rp' ≡ length l.report.now → CanList bs bd' rp' l.text
-        may-list es et = record {
+        pub may-list : length rp' ≡ length l.report.now → CanList bs bd' rp' l.text
+        may-list et = record {
           few = omega (arith, bodies-rights bs, here.few_rights);
           some_row = omega (arith, bodies-rows bs, here.connected.some_row);
           few_rows = omega (arith, bodies-rows bs, here.few_rows);
           few_reservoirs = omega (arith, bodies-reservoirs bs, here.few_reservoirs);
           told = omega (arith, bodies-rights bs, bodies-rows bs, bodies-reservoirs bs, may-go.room, et);
           small = λ v h. omega (arith, losses_told (basin_in bs) here runoff l.board.now l.report.now (record { answer = a; board = bd'; report = rp' }) w z v (omega (arith, h, bodies-reservoirs bs)), ap (λ (x : ℕ). get_or rp' x 0) (place_of v));
-          bounded = bounded b acc bd' (es ∙ can.in_order.size) (still-possible b acc (sheet_of (rows b) part) l.board.now l.report.now can.in_order.can (record { answer = a; board = bd'; report = rp' }) went);
+          bounded = bounded b acc bd' (still-possible b acc (sheet_of (rows b) part) l.board.now l.report.now can.in_order.can (record { answer = a; board = bd'; report = rp' }) went);
           room = can.room;
         }
           where
@@ -148,9 +145,9 @@ module _ (part : List ℕ) (l : Listing) (can : CanStep l) where
     added = [];
     put = record { bytes = sym (append-nil l.text.bytes); room = omega arith; within = omega arith };
     meets = ended-meets (basin_of l.file.now) (standing l) part z;
-    in_order = record { accepted = can.in_order.accepted; size = can.in_order.size; can = can.in_order.can; told = can.in_order.told };
+    in_order = record { accepted = can.in_order.accepted; can = can.in_order.can; told = can.in_order.told };
     counted = omega arith;
-    kept = record { file = refl; same_board = refl; same_report = refl; board = refl; report = refl; text = refl };
+    kept = record { file = refl; same_board = refl; same_report = refl; report = refl; text = refl };
   }
 
   pub part-short : (n : ℕ) → n ≡ rows (basin_of l.file.now) → (length part ≡ 0 → ⊥) → (length part ≡ 4 * n → ⊥) → (l' : Listing) → Refused (told Lists) l l' → Stepped part l l'

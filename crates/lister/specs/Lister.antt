@@ -5,7 +5,6 @@ use Rattle.rules.specs.Answers.{Answer}
 use Rattle.rules.specs.Tally.{report_length}
 use Rattle.filecheck.specs.Check.{check_of}
 use Rattle.records.specs.Records.{basin_of}
-use Rattle.places.specs.Board.{board_length}
 use Rattle.boards.specs.Board.{possible}
 use Rattle.answers.specs.Answers.{file_refusal}
 use Rattle.listing.specs.Listing.{refusal_line, header}
@@ -18,12 +17,11 @@ use Rattle.lister.specs.declared.Listing.{Listing}
 abbrev pub standing : Listing → Standing
 standing l = record { months = l.months; board = l.board.now }
 
--- What every step leaves as it was: the file, which lists are lent, and how long they are.
+-- What every step leaves as it was: the file, which lists are lent, and how long those are whose types do not say it.
 pub record Kept (l l' : Listing) : Type 0 where
   pub file : l'.file.now ≡ l.file.now
   pub same_board : l'.board.ghost_name ≡ l.board.ghost_name
   pub same_report : l'.report.ghost_name ≡ l.report.ghost_name
-  pub board : length l'.board.now ≡ length l.board.now
   pub report : length l'.report.now ≡ length l.report.now
   pub text : length l'.text.bytes + l'.text.room ≡ length l.text.bytes + l.text.room
 
@@ -34,21 +32,19 @@ unfoldable pub opening : Option Answer → Basin → List ℕ → Step
 opening None b board = record { text = header; standing = begin b; more = true }
 opening (Some a) b board = record { text = header ++ refusal_line a; standing = record { months = 0; board = board }; more = false }
 
--- a listing that was opened, with its text at the start of the list out
+-- a listing that was opened, with its text at the start of the list out; the list for a report is as it was
 pub record Opened (f board report out : List ℕ) (l : Listing) : Type 0 where
   pub equation : record { text = l.text.bytes; standing = standing l; more = l.more } ≡ opening (file_refusal f) (basin_of f) board
   pub within : length l.text.bytes ≤ 82
   pub list : length l.text.bytes + l.text.room ≡ length out
   pub of_file : l.file.now ≡ f
-  pub same_length : length l.board.now ≡ length board
-  pub report_kept : length l.report.now ≡ length report
+  pub report_kept : l.report.now ≡ report
 
 -- ---- a step
 
 -- what is in order from step to step of a listing: an accepted file, a possible board, room for the report
 pub record InOrder (l : Listing) : Type 0 where
   pub accepted : check_of l.file.now ≡ Ok tt
-  pub size : length l.board.now ≡ board_length
   pub can : possible (basin_of l.file.now) l.board.now ≡ true
   pub told : report_length (basin_of l.file.now) ≤ length l.report.now
 
@@ -73,6 +69,7 @@ pub record Refused (a : Answer) (l l' : Listing) : Type 0 where
   pub put : Put most_text (refusal_line a) l.text l'.text
   pub months : l'.months ≡ l.months
   pub board : l'.board.now ≡ l.board.now
+  pub report : l'.report.now ≡ l.report.now
   pub more : l'.more ≡ false
   pub kept : Kept l l'
 

@@ -8,19 +8,20 @@ use crate::Listing;
 use lines::month_lines::MOST_TEXT;
 use records::bodies::Bodies;
 
-// The bytes of one sheet.
-pub fn sheet_size(file: &[u8]) -> usize
-    ensures { result ≡ sheet_bytes (basin_of file.now) }
-{
-    4 * Bodies::of(file).rows()
-}
-
 impl<'a, 't> Listing<'a, 't> {
+    // The bytes of one sheet.
+    pub fn sheet_size(&self) -> usize
+        ensures { result ≡ sheet_bytes (basin_of self.now.file.now) }
+    {
+        4 * Bodies::of(self.file).rows()
+    }
+
     // The whole sheets of a block, until one ends the listing or the next month's text might not fit. Answers how many bytes they have.
-    fn list_sheets(&mut self, block: &[u8], size: usize) -> usize
-        requires { CanListBlock block.now self.old × (size ≡ sheet_bytes (basin_of self.old.file.now)) }
+    fn list_sheets(&mut self, block: &[u8]) -> usize
+        requires { CanListBlock block.now self.old }
         ensures { SheetsListed block.now self.old self.new result }
     {
+        let size = self.sheet_size();
         let mut used = 0;
         for sheet in block.chunks_exact(size) {
             if self.text.room() < MOST_TEXT {
@@ -41,8 +42,8 @@ impl<'a, 't> Listing<'a, 't> {
         requires { CanListBlock block.now self.old }
         ensures { BlockListed block.now last 0 self.old self.new result × Moves (basin_of self.old.file.now) block.now last self.new result }
     {
-        let size = sheet_size(self.file);
-        let used = self.list_sheets(block, size);
+        let size = self.sheet_size();
+        let used = self.list_sheets(block);
         let rest = &block[used..];
         if last && self.more && rest.len() < size && MOST_TEXT <= self.text.room() {
             self.list_part(rest);

@@ -6,13 +6,14 @@ pub mod blocks;
 pub mod parts;
 
 use lines::text::Text;
+use places::board::BOARD_LENGTH;
 
 // A listing as it is made: the basin file, the board as the last month left it, a list for the report of a month, the text so far, the months
-// listed, and whether it goes on.
+// listed, and whether it goes on: a flag beside them, since a listing that has ended is still there to be told and its text to be written.
 #[derive(Drop)]
 pub struct Listing<'a, 't> {
     pub file: &'a [u8],
-    pub board: &'a mut [u64],
+    pub board: &'a mut [u64; BOARD_LENGTH],
     pub report: &'a mut [u64],
     pub text: Text<'t>,
     pub months: u64,

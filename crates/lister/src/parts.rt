@@ -1,13 +1,14 @@
 // One step of a listing: what the next part of the months file adds.
 ghost use Rattle.std.specs.Prelude.{◌≡◌, ◌≤◌, length};
-ghost use Rattle.rules.specs.Answers.{told};
 ghost use Rattle.rules.specs.Basin.{rows};
 ghost use Rattle.records.specs.Records.{basin_of};
+ghost use Rattle.answers.specs.Answers.{answer_of};
 ghost use Rattle.listing.specs.Run.{sheet_bytes};
 ghost use Rattle.lines.specs.Putting.{most_text};
 ghost use Rattle.lister.specs.Lister.{CanStep, Stepped, Refused};
 
 use crate::Listing;
+use answers::Answer;
 use lines::frame::put_refusal;
 use lines::month_lines::put_month;
 use month::run::run_sheet;
@@ -17,11 +18,11 @@ use sheets::decode;
 
 impl<'a, 't> Listing<'a, 't> {
     // A refusal is the last line of a listing.
-    pub fn refuse(&mut self, refusal: Refusal)
+    pub fn refuse(&mut self, answer: Answer)
         requires { most_text ≤ self.old.text.room }
-        ensures { Refused (told refusal) self.old self.new }
+        ensures { Refused (answer_of answer) self.old self.new }
     {
-        put_refusal(&mut self.text, refusal);
+        put_refusal(&mut self.text, answer);
         self.more = false;
     }
 
@@ -40,7 +41,7 @@ impl<'a, 't> Listing<'a, 't> {
                 self.months += 1;
                 self.more = true;
             }
-            Err(refusal) => self.refuse(refusal),
+            Err(refusal) => self.refuse(Answer::from(refusal)),
         }
     }
 
@@ -56,9 +57,10 @@ impl<'a, 't> Listing<'a, 't> {
         }
         let n = Bodies::of(self.file).rows();
         if left != 4 * n {
-            self.refuse(Refusal::Lists);
+            self.refuse(Answer::from(Refusal::Lists));
             return;
         }
+        // Room for the longest sheet, without a heap.
         let mut runoff = [0u32; 64];
         self.list_sheet(part, &mut runoff[..n]);
     }

@@ -20,14 +20,15 @@ use Rattle.turns.specs.Lines.{turns_from, Served}
 use Rattle.closing.specs.Losses.{loss_in, Lost}
 use Rattle.closing.specs.Noting.{WordsNoted}
 use Rattle.places.specs.Board.{month_place, storage_place, marks_place, taken_place, due_place, words_from, word_place, board_length, month_at, storage_at, marks_at, taken_at, due_at}
-use Rattle.turns.specs.State.{marks_of, taken_of, state_of, SettingOf}
+use Rattle.river.specs.Setting.{SettingOf}
+use Rattle.turns.specs.State.{marks_of, taken_of, state_of}
 use Rattle.turns.proofs.Facts.{reservoirs-count, reservoir-is}
 use Rattle.turns.proofs.Places.{storage-at, taken_at_lem}
 use Rattle.boards.specs.Board.{carried_of, word_of, possible}
 use Rattle.month.specs.Month.{run_of, due_after, board_after}
 use Rattle.boards.proofs.Bounds.{marks-most, no-storage, no-taken, no_due}
 use Rattle.boards.proofs.Board.{word-bits, board-told}
-use Rattle.month.proofs.Opened.{opened, opened-length, opened-storage, opened-marks, opened-taken, opened-due}
+use Rattle.month.proofs.Opened.{opened, opened-storage, opened-marks, opened-taken, opened-due}
 use Rattle.month.proofs.Turned.{returns-beyond, turns-are, closed_is}
 use Rattle.month.proofs.Words.{word-told}
 
@@ -143,9 +144,9 @@ module _ (b : Basin) (st t rs : List ℕ) (pa : List (List ℕ)) (ri : List ℕ)
   -- ---- the board
 
   -- who was short is noted, the reservoirs lose their evaporation, the month goes on
-  module _ (noted : List ℕ) (e : WordsNoted m (length b.rights) rp₁ bd₂ noted) (rp₂ : List ℕ) (at : ℕ) (bd₃ rp₃ : List ℕ) (l : Lost rs m (reservoir_count rs) noted rp₂ at bd₃ rp₃) (bd₄ : List ℕ) (e₄ : bd₄ ≡ set bd₃ month_place (next_month m)) where
+  module _ (long : length bd₂ ≡ board_length) (noted : List ℕ) (e : WordsNoted m (length b.rights) rp₁ bd₂ noted) (rp₂ : List ℕ) (at : ℕ) (bd₃ rp₃ : List ℕ) (l : Lost rs m (reservoir_count rs) noted rp₂ at bd₃ rp₃) (bd₄ : List ℕ) (e₄ : bd₄ ≡ set bd₃ month_place (next_month m)) where
     size₃ : length bd₃ ≡ board_length
-    size₃ = l.size ∙ e.size ∙ q.size ∙ opened-length bd
+    size₃ = l.size ∙ e.size ∙ long
 
     off : (p : ℕ) → month_place < p → get_or bd₄ p 0 ≡ get_or bd₃ p 0
     off p o = ap (λ (x : List ℕ). get_or x p 0) e₄ ∙ get_or-set_other bd₃ month_place p (next_month m) 0 (λ e. omega (arith, e, o))

@@ -34,7 +34,7 @@ module _ (b : Basin) (runoff bd rp : List ℕ) (c : CanRunSheet b runoff bd rp) 
 
   module _ (e : None ≡ over_answer (over_limit runoff)) where
     pub may-run : CanRun b runoff bd rp
-    may-run = record { accepted = c.accepted; sheet = c.sheet; small = within-limit runoff (over-none (over_limit runoff) (sym e)); size = c.size; can = c.can; room = c.room }
+    may-run = record { accepted = c.accepted; sheet = c.sheet; small = within-limit runoff (over-none (over_limit runoff) (sym e)); can = c.can; room = c.room }
 
     pub goes : (bd' rp' : List ℕ) (k : ℕ) → Ran b runoff bd rp bd' rp' k → SheetRan b runoff bd rp (outcome_of (count_answer (Ok k)) bd' rp')
     unfolding month_settled

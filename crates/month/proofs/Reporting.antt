@@ -19,7 +19,8 @@ use Rattle.records.specs.Records.{reservoir_count}
 use Rattle.river.specs.Arrays.{row_level, levels_of}
 use Rattle.turns.specs.Lines.{LinesTo, turns_from, Served}
 use Rattle.closing.specs.Losses.{loss_in, Lost}
-use Rattle.turns.specs.State.{state_of, SettingOf}
+use Rattle.river.specs.Setting.{SettingOf}
+use Rattle.turns.specs.State.{state_of}
 use Rattle.turns.proofs.Facts.{reservoirs-count}
 use Rattle.places.specs.Board.{month_at, storage_at, due_at}
 use Rattle.boards.specs.Board.{carried_of, possible}

@@ -6,7 +6,7 @@ use Prim.Native.Nat.{ℕ, suc, ◌≤◌, ◌<◌}
 use native.Mathlib.Decide.{dec_lt}
 use native.Mathlib.Omega.{arith}
 use lib.Dec.{ltb, eqb}
-use lib.ListN.{length, get_or, set, replicate, length-replicate, get_or-append, get_or-eq_default}
+use lib.ListN.{length, get_or, set, replicate, get_or-append, get_or-eq_default}
 use Rattle.general.specs.Sums.{sum}
 use Rattle.general.specs.Tables.{tab}
 use Rattle.general.proofs.Lists.{all-at-place, get_d-zeros}
@@ -24,8 +24,11 @@ use Rattle.turns.specs.Lines.{CanServe, Served}
 use Rattle.closing.specs.Losses.{Lost}
 use Rattle.closing.specs.Noting.{WordsNoted}
 use Rattle.opening.specs.Opening.{most_inflow, inflow, CanGather, Gathered, CanOpen}
-use Rattle.places.specs.Board.{BoardOk, month_place, storage_place, dues_of, due_place, words_from, board_length, month_at, storage_at, marks_at, taken_at, due_at, word_at}
-use Rattle.turns.specs.State.{state_of, SettingOf, Within}
+use Rattle.places.specs.Board.{Roomy, month_place, storage_place, dues_of, due_place, words_from, board_length, month_at, storage_at, marks_at, taken_at, due_at, word_at}
+use Rattle.river.specs.Arrays.{RiverOk}
+use Rattle.river.specs.Setting.{SettingOf}
+use Rattle.river.specs.declared.setting.Setting.{Setting}
+use Rattle.turns.specs.State.{state_of, Within}
 use Rattle.turns.proofs.Facts.{downhill, path-in}
 use Rattle.opening.proofs.Openings.{gathered-river, opening-is}
 use Rattle.places.specs.Report.{rows_end}
@@ -121,7 +124,7 @@ module _ (b : Basin) (acc : Accepted b) (bd : List ℕ) (can : possible b bd ≡
 
 -- ---- the steps
 
-module _ (w : Bodies) (runoff bd rp : List ℕ) (c : CanRun (basin_in w) runoff bd rp) where
+module _ (w : Bodies) (runoff bd rp : List ℕ) (c : CanRun (basin_in w) runoff bd rp) (size : length bd ≡ board_length) where
   pub run-rows : rows_of w.stations.now ≤ 64
   run-rows = omega (arith, bodies-rows w, c.accepted.few_rows)
 
@@ -134,12 +137,11 @@ module _ (w : Bodies) (runoff bd rp : List ℕ) (c : CanRun (basin_in w) runoff 
 
   pub can-open : CanOpen (length runoff) bd
   can-open = record {
-    size = c.size;
     few = omega (arith, c.sheet, c.accepted.few_rows);
-    empty = λ p h l. none-due (basin_in w) c.accepted bd c.can c.size p (omega (arith, h, c.sheet)) l;
+    empty = λ p h l. none-due (basin_in w) c.accepted bd c.can size p (omega (arith, h, c.sheet)) l;
   }
 
-module _ (w : Bodies) (runoff bd rp : List ℕ) (c : CanRun (basin_in w) runoff bd rp) (t : List ℕ) (et : t ≡ table_of (stations_of w.stations.now)) (pa : List (List ℕ)) (epa : pa ≡ sixteen_sums w.patterns.now) where
+module _ (w : Bodies) (runoff bd rp : List ℕ) (c : CanRun (basin_in w) runoff bd rp) (size : length bd ≡ board_length) (t : List ℕ) (et : t ≡ table_of (stations_of w.stations.now)) (pa : List (List ℕ)) (epa : pa ≡ sixteen_sums w.patterns.now) where
   abbrev b : Basin
   b = basin_in w
 
@@ -151,77 +153,73 @@ module _ (w : Bodies) (runoff bd rp : List ℕ) (c : CanRun (basin_in w) runoff 
   few_rows = omega (arith, bodies-rows w, c.accepted.few_rows)
 
   inflow-small : (j : ℕ) → inflow runoff bd j ≤ most_inflow
-  inflow-small j = omega (arith, c.small j, board-low b c.accepted bd c.can c.size (due_place j 0))
+  inflow-small j = omega (arith, c.small j, board-low b c.accepted bd c.can size (due_place j 0))
 
-  pub can-gather : (f a : List ℕ) → 64 ≤ length f → 64 ≤ length a → ((i : ℕ) → get_or f i 0 ≡ 0) → ((i : ℕ) → get_or a i 0 ≡ 0) → CanGather t runoff bd f a
-  can-gather f a hf ha ef ea = record {
+  pub can-gather : (f a : List ℕ) → ((i : ℕ) → get_or f i 0 ≡ 0) → ((i : ℕ) → get_or a i 0 ≡ 0) → CanGather t runoff bd f a
+  can-gather f a ef ea = record {
     downhill = downhill setting;
     sheet = omega (arith, c.sheet, c.accepted.few_rows);
-    size = c.size;
     within = λ j i h e. omega (arith, c.sheet, path-in setting j (omega (arith, c.sheet)) i e);
     small = λ j. inflow-small j;
-    places = hf;
-    places₂ = ha;
     empty = ef;
     empty₂ = ea;
   }
 
   dry : CanGather t runoff bd (replicate 64 0) (replicate 64 0)
-  dry = can-gather (replicate 64 0) (replicate 64 0) (omega (arith, length-replicate {A = ℕ} 64 0)) (omega (arith, length-replicate {A = ℕ} 64 0)) (get_d-zeros 64) (get_d-zeros 64)
+  dry = can-gather (replicate 64 0) (replicate 64 0) (get_d-zeros 64) (get_d-zeros 64)
 
-  module _ (f a : List ℕ) (g : Gathered t runoff bd (length runoff) f a) (sh : List Bool) (bd₁ : List ℕ) (e₁ : bd₁ ≡ opened bd) (none : (w : ℕ) → get_or sh w false ≡ false) (marks : 64 ≤ length sh) (m : ℕ) (em : m ≡ month_at bd₁) where
+  module _ (f a : List ℕ) (g : Gathered t runoff bd (length runoff) f a) (bd₁ : List ℕ) (e₁ : bd₁ ≡ opened bd) (m : ℕ) (em : m ≡ month_at bd₁) where
     month-is : m ≡ month_at bd
     month-is = em ∙ ap month_at e₁ ∙ opened-month bd
 
-    pub can-serve : CanServe w.stations.now t w.reservoirs.now pa w.rights.now m f a sh bd₁ rp
-    can-serve = record {
+    pub can-serve : {s : Setting} → s.bodies.now ≡ w → s.below.now ≡ t → s.sums.now ≡ pa → CanServe s m f a bd₁ rp
+    can-serve {s} ew es ep = record {
       basin = b;
-      setting = setting;
+      setting = rw (ew, es, ep) setting;
       in-year = omega (arith, month-is, month-most b bd c.can);
-      river = gathered-river t runoff bd (replicate 64 0) (replicate 64 0) dry f a g;
-      board = subst (λ (x : List ℕ). BoardOk x 1000000000000000000) (sym e₁) (record { size = opened-length bd; room = record { room = opened-small b c.accepted bd c.can c.size } });
-      marks = marks;
-      within = subst (Within b) (sym e₁) (opened-within b c.accepted bd c.can c.size);
-      lines = omega (arith, c.room, bodies-rights w);
+      river = subst (λ (x : List ℕ). RiverOk x f a 1000000000000000000) (sym es) (gathered-river t runoff bd (replicate 64 0) (replicate 64 0) dry f a g);
+      board = subst (λ (x : List ℕ). Roomy x 1000000000000000000) (sym e₁) (record { room = opened-small b c.accepted bd c.can size });
+      within = subst (Within b) (sym e₁) (opened-within b c.accepted bd c.can size);
+      lines = omega (arith, c.room, bodies-rights w, ap (λ (x : Bodies). right_count x.rights.now) ew);
     }
 
-    start : state_of b f a sh (opened bd) ≡ opening b (carried_of b bd) runoff (tab (rows b) (λ u. due_at bd u 1))
-    start = state-opened bd b c.accepted f a sh runoff (tab (rows b) (λ u. due_at bd u 1)) (opening-is b t setting.table c.accepted.few_rows runoff bd c.sheet f a g) none
+    module _ (sh : List Bool) (none : (w : ℕ) → get_or sh w false ≡ false) where
+      start : state_of b f a sh (opened bd) ≡ opening b (carried_of b bd) runoff (tab (rows b) (λ u. due_at bd u 1))
+      start = state-opened bd b c.accepted f a sh runoff (tab (rows b) (λ u. due_at bd u 1)) (opening-is b t setting.table c.accepted.few_rows runoff bd c.sheet f a g) none
 
-    module _ (f₂ a₂ : List ℕ) (sh₂ : List Bool) (bd₂ rp₁ : List ℕ) (k : ℕ) (q₁ : Served b m f a sh bd₁ rp f₂ a₂ sh₂ bd₂ rp₁ k) where
-      q : Served b m f a sh (opened bd) rp f₂ a₂ sh₂ bd₂ rp₁ k
-      q = subst (λ (x : List ℕ). Served b m f a sh x rp f₂ a₂ sh₂ bd₂ rp₁ k) e₁ q₁
+      module _ (f₂ a₂ : List ℕ) (sh₂ : List Bool) (bd₂ rp₁ : List ℕ) (k : ℕ) (q₁ : Served b m f a sh bd₁ rp f₂ a₂ sh₂ bd₂ rp₁ k) where
+        q : Served b m f a sh (opened bd) rp f₂ a₂ sh₂ bd₂ rp₁ k
+        q = subst (λ (x : List ℕ). Served b m f a sh x rp f₂ a₂ sh₂ bd₂ rp₁ k) e₁ q₁
 
-      month₂ : month_at bd₂ ≡ m
-      month₂ = q₁.month ∙ sym em
+        month₂ : month_at bd₂ ≡ m
+        month₂ = q₁.month ∙ sym em
 
-      pub can-end : {n k : ℕ} → n ≡ right_count w.rights.now → k ≡ rows_of w.stations.now → CanEnd w.reservoirs.now n k bd₂ rp₁
-      can-end en ek = rw (en, ek) (record {
-        few = omega (arith, bodies-reservoirs w, c.accepted.few_reservoirs);
-        in-year = omega (arith, month₂, month-is, month-most b bd c.can);
-        size = q.size ∙ opened-length bd;
-        tell = record {
-          few_rights = omega (arith, bodies-rights w, c.accepted.few_rights);
-          few = few_rows;
-          places = omega (arith, c.room, bodies-rights w, bodies-rows w, q.lines.size);
-        };
-        words = λ i h. word_fits b w.stations.now t w.reservoirs.now pa w.rights.now setting runoff bd c.can f a sh start m month-is rp f₂ a₂ sh₂ bd₂ rp₁ k q i (omega (arith, h, bodies-rights w));
-        places = omega (arith, c.room, bodies-rights w, bodies-rows w, bodies-reservoirs w, q.lines.size);
-      })
+        pub can-end : {n k : ℕ} → n ≡ right_count w.rights.now → k ≡ rows_of w.stations.now → CanEnd w.reservoirs.now n k bd₂ rp₁
+        can-end en ek = rw (en, ek) (record {
+          few = omega (arith, bodies-reservoirs w, c.accepted.few_reservoirs);
+          in-year = omega (arith, month₂, month-is, month-most b bd c.can);
+          tell = record {
+            few_rights = omega (arith, bodies-rights w, c.accepted.few_rights);
+            few = few_rows;
+            places = omega (arith, c.room, bodies-rights w, bodies-rows w, q.lines.size);
+          };
+          words = λ i h. word_fits b w.stations.now t w.reservoirs.now pa w.rights.now setting runoff bd c.can f a sh start m month-is rp f₂ a₂ sh₂ bd₂ rp₁ k q i (omega (arith, h, bodies-rights w));
+          places = omega (arith, c.room, bodies-rights w, bodies-rows w, bodies-reservoirs w, q.lines.size);
+        })
 
-      -- the counts by the basin
-      ended : {n rows' : ℕ} → n ≡ right_count w.rights.now → rows' ≡ rows_of w.stations.now → (bd₄ rp₄ : List ℕ) (x : ℕ) → Ended w.reservoirs.now n rows' f₂ a₂ k bd₂ rp₁ bd₄ rp₄ x → Ended w.reservoirs.now (length b.rights) (rows b) f₂ a₂ k bd₂ rp₁ bd₄ rp₄ x
-      ended en er bd₄ rp₄ x z = rw (bodies-rights w, bodies-rows w, sym en, sym er) z
+        -- the counts by the basin
+        ended : {n rows' : ℕ} → n ≡ right_count w.rights.now → rows' ≡ rows_of w.stations.now → (bd₄ rp₄ : List ℕ) (x : ℕ) → Ended w.reservoirs.now n rows' f₂ a₂ k bd₂ rp₁ bd₄ rp₄ x → Ended w.reservoirs.now (length b.rights) (rows b) f₂ a₂ k bd₂ rp₁ bd₄ rp₄ x
+        ended en er bd₄ rp₄ x z = rw (bodies-rights w, bodies-rows w, sym en, sym er) z
 
-      pub ran : {n rows' : ℕ} → n ≡ right_count w.rights.now → rows' ≡ rows_of w.stations.now → (bd₄ rp₄ : List ℕ) (shorts : ℕ) → Ended w.reservoirs.now n rows' f₂ a₂ k bd₂ rp₁ bd₄ rp₄ shorts → Ran b runoff bd rp bd₄ rp₄ shorts
-      ran en er bd₄ rp₄ shorts x =
-          let z = ended en er bd₄ rp₄ shorts x in
-          let at : ℕ = rows_end (length b.rights) (rows b) in
-          let rp₃ : List ℕ = z.losses_told in
-          let e : WordsNoted m (length b.rights) rp₁ bd₂ z.noted = subst (λ (y : ℕ). WordsNoted y (length b.rights) rp₁ bd₂ z.noted) month₂ z.words_noted in
-          let l : Lost w.reservoirs.now m (reservoir_count w.reservoirs.now) z.noted z.told at z.lowered rp₃ = subst (λ (y : ℕ). Lost w.reservoirs.now y (reservoir_count w.reservoirs.now) z.noted z.told at z.lowered rp₃) month₂ z.lost in
-          record {
-            board = board-left b w.stations.now t w.reservoirs.now pa w.rights.now setting runoff bd c.can f a sh start m month-is rp f₂ a₂ sh₂ bd₂ rp₁ k q z.noted e z.told at z.lowered rp₃ l bd₄ (z.gone_on ∙ ap (λ (y : ℕ). set z.lowered month_place (next_month y)) month₂);
-            report = report-left b w.stations.now t w.reservoirs.now pa w.rights.now setting runoff bd c.can f a sh start m month-is rp f₂ a₂ sh₂ bd₂ rp₁ k q c.room z.told z.rows_told z.noted (λ v o. e.front (storage_place v) (omega arith)) z.lowered rp₃ l rp₄ z.deep_told;
-            shorts = z.counted ∙ shorts-told b w.stations.now t w.reservoirs.now pa w.rights.now setting runoff bd c.can f a sh start m month-is rp f₂ a₂ sh₂ bd₂ rp₁ k q;
-          }
+        pub ran : length bd₂ ≡ board_length → {n rows' : ℕ} → n ≡ right_count w.rights.now → rows' ≡ rows_of w.stations.now → (bd₄ rp₄ : List ℕ) (shorts : ℕ) → Ended w.reservoirs.now n rows' f₂ a₂ k bd₂ rp₁ bd₄ rp₄ shorts → Ran b runoff bd rp bd₄ rp₄ shorts
+        ran long en er bd₄ rp₄ shorts x =
+            let z = ended en er bd₄ rp₄ shorts x in
+            let at : ℕ = rows_end (length b.rights) (rows b) in
+            let rp₃ : List ℕ = z.losses_told in
+            let e : WordsNoted m (length b.rights) rp₁ bd₂ z.noted = subst (λ (y : ℕ). WordsNoted y (length b.rights) rp₁ bd₂ z.noted) month₂ z.words_noted in
+            let l : Lost w.reservoirs.now m (reservoir_count w.reservoirs.now) z.noted z.told at z.lowered rp₃ = subst (λ (y : ℕ). Lost w.reservoirs.now y (reservoir_count w.reservoirs.now) z.noted z.told at z.lowered rp₃) month₂ z.lost in
+            record {
+              board = board-left b w.stations.now t w.reservoirs.now pa w.rights.now setting runoff bd c.can f a sh start m month-is rp f₂ a₂ sh₂ bd₂ rp₁ k q long z.noted e z.told at z.lowered rp₃ l bd₄ (z.gone_on ∙ ap (λ (y : ℕ). set z.lowered month_place (next_month y)) month₂);
+              report = report-left b w.stations.now t w.reservoirs.now pa w.rights.now setting runoff bd c.can f a sh start m month-is rp f₂ a₂ sh₂ bd₂ rp₁ k q c.room z.told z.rows_told z.noted (λ v o. e.front (storage_place v) (omega arith)) z.lowered rp₃ l rp₄ z.deep_told;
+              shorts = z.counted ∙ shorts-told b w.stations.now t w.reservoirs.now pa w.rights.now setting runoff bd c.can f a sh start m month-is rp f₂ a₂ sh₂ bd₂ rp₁ k q;
+            }

@@ -1,8 +1,9 @@
 -- Each answer of month, case by case. Assumes nothing.
-use Rattle.std.specs.Prelude.{Option, None, Some, MatchOption}
+use Rattle.std.specs.Prelude.{Option, None, Some, Ok, Err, MatchOption}
 use Rattle.std.specs.List.{AllWithin, HoldsAt}
 use mathlib.Core.Path.{◌≡◌, refl, sym, ap, ◌∙◌, subst}
-use mathlib.Core.Bool.{Bool, true}
+use mathlib.Core.Bool.{Bool, true, false}
+use mathlib.Core.Logic.{◌≢◌}
 use mathlib.Core.List.{List}
 use Prim.Native.Nat.{ℕ, ◌≤◌, ◌<◌}
 use native.Mathlib.Decide.{dec_lt}
@@ -10,10 +11,12 @@ use native.Mathlib.Omega.{arith}
 use lib.Dec.{leb, ltb, eqb}
 use lib.ListN.{length, get_or, get_or-eq_default}
 use Rattle.general.specs.Tests.{◌and◌}
-use Rattle.general.proofs.Tests.{ltb_yes, ltb_no, not-lt-of, eq_of, le_of, both_of}
+use Rattle.general.proofs.Tests.{ltb_yes, ltb_no, not-lt-of, eq_of, le_of, both_of, eqb_same, eqb-other, and-true}
+use Rattle.general.proofs.Loops.{and-not}
 use Rattle.general.proofs.Search.{first-none, found-below}
 use Rattle.rules.specs.Basin.{Basin, rows}
 use Rattle.rules.specs.declared.Refusal.{Refusal}
+use Rattle.rules.specs.declared.Refusal.TheVariants.{Runoff}
 use Rattle.records.specs.Records.{rows_of, reservoir_count, right_count, basin_of, bodies}
 use Rattle.records.specs.declared.bodies.Bodies.{Bodies}
 use Rattle.records.specs.Bodies.{basin_in, BodiesOf}
@@ -22,25 +25,37 @@ use Rattle.records.proofs.Rows.{rows_are}
 use Rattle.places.specs.Report.{report_end}
 use Rattle.records.proofs.Decoded.{basin-same, reservoirs-are, rights-are}
 use Rattle.places.specs.Board.{board_length}
-use Rattle.rules.specs.Answers.{Answer, told, or_else}
+use Rattle.rules.specs.Answers.{Verdict, Answer, told, or_else}
 use Rattle.rules.specs.Tally.{most_runoff, report_length, lists_fit, over_limit, over_answer}
-use Rattle.answers.specs.Answers.{lent_refusal}
-use Rattle.answers.proofs.Answers.{Clear, lent_none}
+use Rattle.filecheck.specs.Check.{check_of}
+use Rattle.boards.specs.Board.{possible, judged}
+use Rattle.boards.proofs.Bodies.{possible-told}
+use Rattle.answers.specs.Answers.{refusal_of, lent_refusal}
+use Rattle.answers.proofs.Answers.{Clear, lent-file, lent_none}
+use Rattle.answers.proofs.Judged.{lent-judged}
 use Rattle.answers.proofs.Numbered.{Numbered, or-numbered, over-numbered, lent-numbered}
-use Rattle.month.specs.Month.{all_fit, month_refusal, Outcome, month_settled, month_of, MonthMeets, outcome_of}
+use Rattle.month.specs.Month.{call_with, all_fit, month_refusal, Outcome, month_settled, month_of, MonthMeets, outcome_of}
 use Rattle.month.specs.Run.{CanRunSheet, SheetRan}
 
 -- ---- the lists, by the bodies
 
-pub lists-bodies : (w : Bodies) (runoff board report : List ℕ)
-    → (eqb (length runoff) (rows_of w.stations.now) and leb (report_end (right_count w.rights.now) (rows_of w.stations.now) (reservoir_count w.reservoirs.now)) (length report) and eqb (length board) board_length)
-    ≡ all_fit (basin_in w) runoff board report
-unfolding bodies all_fit lists_fit
-lists-bodies w runoff board report = rw (reservoirs-are w.reservoirs.now, rows_are w.stations.now, rights-are w.rights.now)
+pub lists-bodies : (w : Bodies) (runoff report : List ℕ)
+    → (eqb (length runoff) (rows_of w.stations.now) and leb (report_end (right_count w.rights.now) (rows_of w.stations.now) (reservoir_count w.reservoirs.now)) (length report))
+    ≡ lists_fit (basin_in w) (call_with runoff report)
+unfolding bodies lists_fit
+lists-bodies w runoff report = rw (reservoirs-are w.reservoirs.now, rows_are w.stations.now, rights-are w.rights.now)
 
--- by the bodies of a file, and by the file
-pub lists-told : (f : List ℕ) (w : Bodies) (runoff board report : List ℕ) {r : Bool} → BodiesOf f w → r ≡ all_fit (basin_in w) runoff board report → r ≡ all_fit (basin_of f) runoff board report
-lists-told f w runoff board report o h = h ∙ ap (λ (b : Basin). all_fit b runoff board report) (basin-same f w o)
+-- beside a board that has its length, by the bodies of a file and by the file
+pub lists-told : (f : List ℕ) (w : Bodies) (runoff board report : List ℕ) {r : Bool} → BodiesOf f w → length board ≡ board_length → r ≡ lists_fit (basin_in w) (call_with runoff report) → r ≡ all_fit (basin_of f) runoff board report
+unfolding all_fit
+lists-told f w runoff board report o long h =
+    h ∙ ap (λ (b : Basin). lists_fit b (call_with runoff report)) (basin-same f w o)
+    ∙ sym (ap (λ (k : ℕ). lists_fit (basin_of f) (call_with runoff report) and eqb k board_length) long ∙ ap (λ (t : Bool). lists_fit (basin_of f) (call_with runoff report) and t) (eqb_same board_length) ∙ and-true (lists_fit (basin_of f) (call_with runoff report)))
+
+-- a board of another length
+pub board-unfit : (b : Basin) (runoff board report : List ℕ) → length board ≢ board_length → all_fit b runoff board report ≡ false
+unfolding all_fit
+board-unfit b runoff board report n = and-not (lists_fit b (call_with runoff report)) (eqb-other (length board) board_length n)
 
 pub fits-parts : (b : Basin) (runoff board report : List ℕ) → all_fit b runoff board report ≡ true → (length runoff ≡ rows b) × (report_length b ≤ length report) × (length board ≡ board_length)
 unfolding all_fit lists_fit
@@ -81,6 +96,12 @@ unfolding over_answer
 over-none None e = refl
 over-none (Some i) e = cc
 
+-- a row that was found is the place of the refusal
+pub over-told : {P : ℕ → Type 0} (o : Option ℕ) (v : Verdict) → ((i : ℕ) → P i → v ≡ Err (Runoff i)) → MatchOption o (v ≡ Ok tt) P → refusal_of v ≡ over_answer o
+unfolding over_answer
+over-told None v f e = ap refusal_of e
+over-told (Some i) v f e = ap refusal_of (f i e)
+
 -- ---- the contract
 
 module _ (f runoff board report : List ℕ) where
@@ -99,6 +120,14 @@ module _ (f runoff board report : List ℕ) where
   unfolding month_of month_settled month_refusal or_else
   month-refused r e = rw (← e)
 
+  pub month-unchecked : (r : Refusal) → Err r ≡ check_of f → MonthMeets f runoff board report (outcome_of (told r) board report)
+  month-unchecked r e = month-refused r (lent-file f fits board r e)
+
+  -- what is turned down beside an accepted file and a board that has its length
+  pub lent-told : (w : Bodies) → BodiesOf f w → check_of f ≡ Ok tt → length board ≡ board_length → {t : Bool} {v : Verdict} {bd : List ℕ} → bd ≡ board → t ≡ lists_fit (basin_in w) (call_with runoff report) → v ≡ judged t (possible (basin_in w) bd) → refusal_of v ≡ lent
+  lent-told w h acc long eb et ev = lent-judged f fits board acc
+      (ev ∙ (λ z. judged (lists-told f w runoff board report h long et z) (possible-told f w board h (ap (possible (basin_in w)) eb) z)))
+
   -- only the runoff is left to look at
   module _ (k : Clear f fits board) where
     pub only-runoff : month_refusal f runoff board report ≡ over_answer (over_limit runoff)
@@ -106,7 +135,7 @@ module _ (f runoff board report : List ℕ) where
     only-runoff = rw (lent_none f fits board k)
 
     can-go : CanRunSheet (basin_of f) runoff board report
-    can-go = let p = fits-parts (basin_of f) runoff board report k.lists-ok in record { accepted = accepted-facts f k.file-ok; sheet = p.0; size = p.2; can = k.board-ok; room = p.1 }
+    can-go = let p = fits-parts (basin_of f) runoff board report k.lists-ok in record { accepted = accepted-facts f k.file-ok; sheet = p.0; can = k.board-ok; room = p.1 }
 
     went : (o : Outcome) → SheetRan (basin_of f) runoff board report o → MonthMeets f runoff board report o
     unfolding month_of

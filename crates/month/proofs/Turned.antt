@@ -15,7 +15,8 @@ use Rattle.rules.specs.Month.{MonthRun, opening, turns, after_turns, returned_by
 use Rattle.rules.proofs.Splits.{PartsIn, parts_in}
 use Rattle.turns.specs.Lines.{turns_from, Served}
 use Rattle.places.specs.Board.{month_at, due_at}
-use Rattle.turns.specs.State.{state_of, SettingOf}
+use Rattle.river.specs.Setting.{SettingOf}
+use Rattle.turns.specs.State.{state_of}
 use Rattle.boards.specs.Board.{carried_of, possible}
 use Rattle.month.specs.Month.{run_of}
 use Rattle.month.proofs.Opened.{opened}

@@ -20,7 +20,8 @@ use Rattle.rules.specs.Turn.{Grant, Turn}
 use Rattle.rules.specs.Month.{MonthRun, no_grant, grant_at, reason_number, is_short, opening_shorts, noted, opening, month, short_count}
 use Rattle.rules.proofs.Months.{turns-length}
 use Rattle.turns.specs.Lines.{Served}
-use Rattle.turns.specs.State.{state_of, SettingOf}
+use Rattle.river.specs.Setting.{SettingOf}
+use Rattle.turns.specs.State.{state_of}
 use Rattle.places.specs.Board.{word_place, month_at, due_at, word_at}
 use Rattle.places.proofs.BoardPlaces.{word-as-due, place_read}
 use Rattle.boards.specs.Board.{carried_of, word_of, possible}

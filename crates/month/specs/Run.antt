@@ -1,6 +1,5 @@
 -- A month of an accepted basin, on a possible board: what it asks for, and what it leaves.
 use Rattle.std.specs.Prelude.{true, List, ◌≡◌, ℕ, ◌≤◌, length, get_or}
-use Rattle.places.specs.Board.{board_length}
 use Rattle.rules.specs.Accepted.{Accepted}
 use Rattle.rules.specs.Basin.{Basin, rows}
 use Rattle.rules.specs.Month.{short_count}
@@ -13,7 +12,6 @@ use Rattle.month.specs.Month.{run_of, board_after, Outcome, month_settled}
 pub record CanRunSheet (b : Basin) (runoff bd rp : List ℕ) : Type 0 where
   pub accepted : Accepted b
   pub sheet : length runoff ≡ rows b
-  pub size : length bd ≡ board_length
   pub can : possible b bd ≡ true
   pub room : report_length b ≤ length rp
 
@@ -26,7 +24,6 @@ pub record CanRun (b : Basin) (runoff bd rp : List ℕ) : Type 0 where
   pub accepted : Accepted b
   pub sheet : length runoff ≡ rows b
   pub small : (j : ℕ) → get_or runoff j 0 ≤ most_runoff
-  pub size : length bd ≡ board_length
   pub can : possible b bd ≡ true
   pub room : report_length b ≤ length rp
 

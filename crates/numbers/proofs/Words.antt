@@ -5,6 +5,7 @@ use Prim.Native.Nat.{ℕ, ◌+◌, ◌*◌, ◌/◌, ◌%◌, ◌<◌}
 use native.Mathlib.Nat.{div-div-eq-div-mul}
 use native.Mathlib.Omega.{arith}
 use mir.Syntax.{w64}
+use Rattle.general.proofs.Parts.{put_mid-over}
 use lib.ListN.{length, get_or}
 use Rattle.std.specs.Int.{to_le_bytes}
 use Rattle.numbers.specs.Bytes.{le32_at, le64_at, bytes32, bytes64}
@@ -17,6 +18,9 @@ length-bytes64 x = refl
 pub eight-bytes : (x : ℕ) → to_le_bytes w64 x ≡ bytes64 x
 unfolding bytes64 bytes32
 eight-bytes x = simp div-div-eq-div-mul
+
+-- what a part of a list is, over which a number is written
+pub ruleset written = (put_mid-over, eight-bytes, length-bytes64)
 
 -- of two lists with the same eight bytes it is the same number
 pub word_same : (s s' : List ℕ) (p : ℕ) → ((i : ℕ) → i < 8 → get_or s' (p + i) 0 ≡ get_or s (p + i) 0) → le64_at s' p ≡ le64_at s p

@@ -26,6 +26,7 @@ pub fn power(i: u64) -> u64
 }
 
 // The word with bit i made 1 or 0; of 32 bits, so that no sum wraps.
+#[tactic(auto, using(general::proofs::Bits::and_bit), unfolding(general::specs::Tests::with_bit))]
 pub fn put_bit(word: u64, i: u64, on: bool) -> u64
     requires { (i < 32) × (word < 2 ^ 32) }
     ensures { result ≡ with_bit word i on }
@@ -40,7 +41,9 @@ pub fn put_bit(word: u64, i: u64, on: bool) -> u64
 
 // ---- tests
 
-// What `contains` of a range says, in the words of the rules.
+// The library's `contains` promises inequalities. They are turned once, here, into the one test by which the rules name a range, so that
+// the tests of a file, joined by `&`, need no proof of their own.
+#[tactic(auto, using(general::proofs::Tests::joins), unfolding(general::specs::Tests::between))]
 pub fn in_range(low: u32, x: u32, high: u32) -> bool
     ensures { result ≡ between low x high }
 {
@@ -48,6 +51,8 @@ pub fn in_range(low: u32, x: u32, high: u32) -> bool
 }
 
 // Whether all numbers below n pass a test. All are asked: a loop that may leave early costs more than it saves, since most files are good.
+// A `fold` would be a closure around the closure.
+#[tactic(auto, using(general::proofs::Tests::joins), unfolding(general::specs::Tests::all_to))]
 pub fn all_below<F: Fn(usize) -> bool>(n: usize, test: F) -> bool
     requires { (k : ℕ) → k < n → F.pre test k }
     ensures { (t : ℕ → Bool) → ((k : ℕ) (b : Bool) → k < n → F.post test k b → b ≡ t k) → result ≡ all_to n t }

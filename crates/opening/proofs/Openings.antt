@@ -51,8 +51,6 @@ pub record Gathering (t runoff bd : List ℕ) (k : ℕ) (f a : List ℕ) : Type 
   pub coming : (i : ℕ) → k ≤ i → i < 64 → sum_to 64 (waiting t f k i) ≡ sent_to t runoff bd k i
   pub beyond : (i : ℕ) → length runoff ≤ i → i < 64 → get_or f i 0 ≡ 0
   pub beyond₂ : (i : ℕ) → k ≤ i → get_or a i 0 ≡ 0
-  pub places : 64 ≤ length f
-  pub places₂ : 64 ≤ length a
 
 module _ (t runoff bd f₀ a₀ : List ℕ) (c : CanGather t runoff bd f₀ a₀) where
   pub gathering-none : Gathering t runoff bd 0 f₀ a₀
@@ -65,8 +63,6 @@ module _ (t runoff bd f₀ a₀ : List ℕ) (c : CanGather t runoff bd f₀ a₀
         ∙ sym (sent-none t runoff bd i);
     beyond = λ i h l. c.empty i;
     beyond₂ = λ i h. c.empty₂ i;
-    places = c.places;
-    places₂ = c.places₂;
   }
 
   -- the step of row k
@@ -100,8 +96,6 @@ module _ (t runoff bd f₀ a₀ : List ℕ) (c : CanGather t runoff bd f₀ a₀
       pub can-send : CanSend t k d f a
       can-send = record {
         row-ok = on;
-        places = g.places;
-        places₂ = g.places₂;
         small = λ i h. flow-small i h (dec_lt i k);
         more = omega (arith, e, c.small k);
       }
@@ -192,8 +186,6 @@ module _ (t runoff bd f₀ a₀ : List ℕ) (c : CanGather t runoff bd f₀ a₀
           coming = λ i h l. coming-more i (omega arith) l;
           beyond = λ i h l. kept i l (λ u. omega (arith, u, h, hk)) (not-past i h l) ∙ g.beyond i h l;
           beyond₂ = λ i h. z.other₂ i (λ u. omega (arith, u, h)) ∙ g.beyond₂ i (omega arith);
-          places = omega (arith, g.places, z.size);
-          places₂ = omega (arith, g.places₂, z.size₂);
         }
 
         pub gathering-more : Gathering t runoff bd (k + 1) f' a'
@@ -212,8 +204,6 @@ module _ (t runoff bd f₀ a₀ : List ℕ) (c : CanGather t runoff bd f₀ a₀
   gathered-all f a g = record {
     flow = λ i h. at i (dec_lt i (length runoff)) f (g.done i) (λ l. g.beyond i l h);
     available = λ i h. at i (dec_lt i (length runoff)) a (g.done₂ i) (g.beyond₂ i);
-    places = g.places;
-    places₂ = g.places₂;
   }
     where
       at : (i : ℕ) → Dec (i < length runoff) → (l : List ℕ) → (i < length runoff → get_or l i 0 ≡ sent_to t runoff bd (length runoff) i) → (length runoff ≤ i → get_or l i 0 ≡ 0) → get_or l i 0 ≡ sent_to t runoff bd (length runoff) i
@@ -224,8 +214,6 @@ module _ (t runoff bd f₀ a₀ : List ℕ) (c : CanGather t runoff bd f₀ a₀
   pub gathered-river : (f a : List ℕ) → Gathered t runoff bd (length runoff) f a → RiverOk t f a 1000000000000000000
   gathered-river f a g = record {
     downhill = c.downhill;
-    places = g.places;
-    places₂ = g.places₂;
     room = λ i h. omega (arith, g.flow i h, sent-most t runoff bd c.small (length runoff) i, c.sheet);
     within = λ i h. omega (arith, g.flow i h, g.available i h);
   }

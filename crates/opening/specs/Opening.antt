@@ -2,7 +2,7 @@
 use Rattle.std.specs.Prelude.{Bool, true, cond, ◌≢◌, List, ◌≡◌, ℕ, suc, ◌+◌, ◌*◌, ◌≤◌, ◌<◌, ltb, eqb, length, get_or}
 use Rattle.general.specs.Sums.{sum_to, only}
 use Rattle.general.specs.Tests.{has}
-use Rattle.places.specs.Board.{marks_place, dues_from, dues_of, last_due, words_from, board_length, month_at, storage_at, marks_at, taken_at, due_at, word_at, Parts, board_by}
+use Rattle.places.specs.Board.{marks_place, dues_from, dues_of, last_due, words_from, month_at, storage_at, marks_at, taken_at, due_at, word_at, Parts, board_by}
 use Rattle.records.specs.Table.{path_by, Downhill, OnTable}
 
 -- the most that enters at one row: runoff within its limit, and what eleven months can have sent
@@ -20,19 +20,14 @@ sent_to t runoff bd k i = sum_to k (λ j. only (has i (path_by t j)) (inflow run
 pub record CanGather (t runoff bd f a : List ℕ) : Type 0 where
   pub downhill : Downhill t
   pub sheet : length runoff ≤ 64
-  pub size : length bd ≡ board_length
   pub small : (j : ℕ) → inflow runoff bd j ≤ most_inflow
   pub within : (j i : ℕ) → j < length runoff → has i (path_by t j) ≡ true → i < length runoff
-  pub places : 64 ≤ length f
-  pub places₂ : 64 ≤ length a
   pub empty : (i : ℕ) → get_or f i 0 ≡ 0
   pub empty₂ : (i : ℕ) → get_or a i 0 ≡ 0
 
 -- one row's step: all flows are small, so that no sum wraps
 pub record CanSend (t : List ℕ) (row d : ℕ) (f a : List ℕ) : Type 0 where
   pub row-ok : OnTable t row
-  pub places : 64 ≤ length f
-  pub places₂ : 64 ≤ length a
   pub small : (i : ℕ) → i < 64 → get_or f i 0 ≤ 64 * most_inflow
   pub more : d ≤ most_inflow
 
@@ -42,15 +37,11 @@ pub record Sent (t : List ℕ) (row d : ℕ) (f a f' a' : List ℕ) : Type 0 whe
   pub here₂ : get_or a' row 0 ≡ get_or f row 0 + d
   pub other : (i : ℕ) → i < 64 → i ≢ row → get_or f' i 0 ≡ get_or f i 0 + only (eqb (get_or t row 0) i) (get_or f row 0 + d)
   pub other₂ : (i : ℕ) → i ≢ row → get_or a' i 0 ≡ get_or a i 0
-  pub size : length f' ≡ length f
-  pub size₂ : length a' ≡ length a
 
--- flow and available flow at each row are what the first k rows send there, and each row has its place still
+-- flow and available flow at each row are what the first k rows send there
 pub record Gathered (t runoff bd : List ℕ) (k : ℕ) (f a : List ℕ) : Type 0 where
   pub flow : (i : ℕ) → i < 64 → get_or f i 0 ≡ sent_to t runoff bd k i
   pub available : (i : ℕ) → i < 64 → get_or a i 0 ≡ sent_to t runoff bd k i
-  pub places : 64 ≤ length f
-  pub places₂ : 64 ≤ length a
 
 -- ---- the board as a month opens
 
@@ -70,7 +61,6 @@ opened_board bd october = board_by (opened_parts bd october)
 
 -- a board of n rows: nothing is due where it has no row
 pub record CanOpen (n : ℕ) (bd : List ℕ) : Type 0 where
-  pub size : length bd ≡ board_length
   pub few : n ≤ 64
   pub empty : (p : ℕ) → dues_of n ≤ p → p < words_from → get_or bd p 0 ≡ 0
 

@@ -6,9 +6,9 @@ ghost use Rattle.opening.specs.Opening.{CanOpen, cleared_at, moved_at, ended_at,
 
 use places::board::{BOARD_LENGTH, DUES, MARKS, MONTHS_DUE, WORDS, due_place, dues_of};
 
-// In October marks, water taken and short words are cleared. Storages, before them, and dues, in between, stay.
-fn clear_year(board: &mut [u64], october: bool)
-    requires { length board.old ≡ board_length }
+// In October marks, water taken and short words are cleared. Storages, before them, and dues, in between, stay. Whether it is October is a value,
+// as the definition of each place has it.
+fn clear_year(board: &mut [u64; BOARD_LENGTH], october: bool)
     ensures { board.new ≡ tab board_length (cleared_at board.old october) }
 {
     if !october {
@@ -19,8 +19,8 @@ fn clear_year(board: &mut [u64], october: bool)
 }
 
 // The dues of n rows as one list, so that they move as one block. The last of a row takes the next row's first, until `clear_last`.
-fn move_dues(board: &mut [u64], n: usize)
-    requires { (length board.old ≡ board_length) × (n ≤ 64) }
+fn move_dues(board: &mut [u64; BOARD_LENGTH], n: usize)
+    requires { n ≤ 64 }
     ensures { board.new ≡ tab board_length (moved_at board.old n) }
 {
     if n > 0 {
@@ -28,10 +28,10 @@ fn move_dues(board: &mut [u64], n: usize)
     }
 }
 
-// The last due of each row is 0. The rows are counted, since it is a place of theirs that is written: rows as parts of the board would need a
-// number for that place within a part, which the list of places does not have.
-fn clear_last(board: &mut [u64], n: usize)
-    requires { (length board.old ≡ board_length) × (n ≤ 64) }
+// The last due of each row is 0. The rows are counted: with rows as parts of the board (`chunks_exact_mut`) the proof did not close, since it was
+// not told what a part that is lent in a loop was left as.
+fn clear_last(board: &mut [u64; BOARD_LENGTH], n: usize)
+    requires { n ≤ 64 }
     ensures { board.new ≡ tab board_length (ended_at board.old n) }
 {
     for w in 0..n {
@@ -41,7 +41,7 @@ fn clear_last(board: &mut [u64], n: usize)
 
 // Three plain steps, since one loop that asks at each place what is kept there costs a small basin more than its rights; and over the basin's own
 // n rows, since a possible board has nothing due at any other, and moving those zeros too cost a small basin a quarter of its month.
-pub fn open_board(board: &mut [u64], october: bool, n: usize)
+pub fn open_board(board: &mut [u64; BOARD_LENGTH], october: bool, n: usize)
     requires { CanOpen n board.old }
     ensures { board.new ≡ opened_board board.old october }
 {

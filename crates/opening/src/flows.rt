@@ -2,7 +2,7 @@
 ghost use Rattle.std.specs.Prelude.{length};
 ghost use Rattle.opening.specs.Opening.{CanSend, Sent, CanGather, Gathered};
 
-use places::board::due_place;
+use places::board::{BOARD_LENGTH, due_place};
 use records::network::next_row;
 use river::River;
 
@@ -17,13 +17,13 @@ fn send_down(below: &[u8; 64], river: &mut River, row: usize, d: u64)
     river.flow[row] = x;
     river.available[row] = x;
     if let Some(next) = next_row(below, row) {
-        river.flow[next] = river.flow[next] + x;
+        river.flow[next] += x;
     }
 }
 
 // What enters at each row of the sheet, runoff and the returns that arrive, flows down its path. A row below is a later row, so that one
 // step from each row, first row first, is enough.
-pub fn gather(below: &[u8; 64], runoff: &[u32], board: &[u64], river: &mut River)
+pub fn gather(below: &[u8; 64], runoff: &[u32], board: &[u64; BOARD_LENGTH], river: &mut River)
     requires { CanGather below.now runoff.now board.now river.old.flow river.old.available }
     ensures { Gathered below.now runoff.now board.now (length runoff.now) river.new.flow river.new.available }
 {

@@ -75,10 +75,6 @@ roomy = 4611686018427387904
 pub record Roomy (l : List ℕ) (most : ℕ) : Type 0 where
   pub room : (j : ℕ) → get_or l j 0 ≤ most
 
-pub record BoardOk (bd : List ℕ) (most : ℕ) : Type 0 where
-  pub size : length bd ≡ board_length
-  pub room : Roomy bd most
-
 -- ---- a board made of its parts
 
 -- storages by reservoir, water taken and short words by right, dues by row and by the months until they arrive, counted from 1

@@ -1,4 +1,4 @@
-// The places of a board.
+// The places of a board. It is a flat list of numbers, and so is a report, since C lends, keeps and reads them so.
 ghost use Rattle.std.specs.Prelude.{◌≡◌, ◌≤◌, ◌<◌};
 ghost use Rattle.places.specs.Board.{storage_place, taken_place, dues_of, due_place, word_place};
 

@@ -23,34 +23,42 @@ pub fn line_place(i: usize) -> usize
     4 * i
 }
 
-// The flow of row w in a basin of n rights.
-pub fn flow_place(n: usize, w: usize) -> usize
-    requires { (n ≤ 256) × (w ≤ 64) }
-    ensures { result ≡ flow_place n w }
-{
-    line_place(n) + 2 * w
+// How many rights, rows and reservoirs a basin has: these decide where each number of its reports stands.
+#[derive(Clone, Copy)]
+pub struct Shape {
+    pub rights: usize,
+    pub rows: usize,
+    pub reservoirs: usize,
+    ghost few: { (rights ≤ 256) × (rows ≤ 64) × (reservoirs ≤ 8) },
 }
 
-// Where the rows end, and the evaporations begin, in a basin of n rights and h rows.
-pub fn rows_end(n: usize, h: usize) -> usize
-    requires { (n ≤ 256) × (h ≤ 64) }
-    ensures { result ≡ rows_end n h }
-{
-    flow_place(n, h)
-}
+impl Shape {
+    // The flow of row w; of a row past the last, where the rows end.
+    pub fn flow_place(self, w: usize) -> usize
+        requires { w ≤ 64 }
+        ensures { result ≡ flow_place self.rights w }
+    {
+        line_place(self.rights) + 2 * w
+    }
 
-// What went deep, in a basin of n rights, h rows and v reservoirs: the last number of a report.
-pub fn deep_place(n: usize, h: usize, v: usize) -> usize
-    requires { (n ≤ 256) × (h ≤ 64) × (v ≤ 8) }
-    ensures { result ≡ deep_place n h v }
-{
-    rows_end(n, h) + v
-}
+    // Where the rows end, and the evaporations begin.
+    pub fn rows_end(self) -> usize
+        ensures { result ≡ rows_end self.rights self.rows }
+    {
+        self.flow_place(self.rows)
+    }
 
-// Where a report ends, in a basin of n rights, h rows and v reservoirs.
-pub fn report_end(n: usize, h: usize, v: usize) -> usize
-    requires { (n ≤ 256) × (h ≤ 64) × (v ≤ 8) }
-    ensures { result ≡ report_end n h v }
-{
-    deep_place(n, h, v) + 1
+    // What went deep: the last number of a report.
+    pub fn deep_place(self) -> usize
+        ensures { result ≡ deep_place self.rights self.rows self.reservoirs }
+    {
+        self.rows_end() + self.reservoirs
+    }
+
+    // Where a report ends, which is its length.
+    pub fn report_end(self) -> usize
+        ensures { result ≡ report_end self.rights self.rows self.reservoirs }
+    {
+        self.deep_place() + 1
+    }
 }

@@ -1,8 +1,6 @@
 -- What a program keeps from block to block of a listing.
 use Rattle.std.specs.Prelude.{true, List, ◌≡◌, ℕ, ◌+◌, ◌≤◌, ◌<◌, length}
-use Rattle.records.specs.Records.{basin_of}
 use Rattle.lines.specs.Putting.{most_text}
-use Rattle.listing.specs.Run.{sheet_bytes}
 use Rattle.lister.specs.declared.Listing.{Listing}
 use Rattle.lister.specs.Lister.{Kept, InOrder}
 
@@ -11,10 +9,15 @@ pub record Going (l : Listing) : Type 0 where
   pub in_order : InOrder l
   pub room : most_text ≤ length l.text.bytes + l.text.room
 
--- a block that was read, of a listing that goes on; the months are counted by the bytes, of which each takes some
-pub record CanRead (sheet : ℕ) (block : List ℕ) (l : Listing) : Type 0 where
+-- a listing that was opened on an accepted file: it goes on, and no month is listed yet
+pub record Begun (l : Listing) : Type 0 where
   pub going : Going l
-  pub bytes : sheet ≡ sheet_bytes (basin_of l.file.now)
+  pub more : l.more ≡ true
+  pub first : l.months ≡ 0
+
+-- a block that was read, of a listing that goes on; the months are counted by the bytes, of which each takes some
+pub record CanRead (block : List ℕ) (l : Listing) : Type 0 where
+  pub going : Going l
   pub more : l.more ≡ true
   pub counted : l.months + length block < 18_446_744_073_709_551_615
 

@@ -6,17 +6,17 @@ use crate::output::{Unwritten, make_room};
 use lister::Listing;
 
 // Lists what was read, with a write wherever a month more might not fit into the text. Nothing more can be listed before more is read where no
-// whole sheet is left and the file does not end here.
+// whole sheet is left and the file does not end here. A `while`, since each step tells how far it came.
 pub fn list_read<R: Print + Eprint>(
     rt: &R,
     listing: &mut Listing,
-    size: usize,
     block: &[u8],
     last: bool,
 ) -> Result<(), Unwritten>
-    requires { CanRead size block.now listing.old }
+    requires { CanRead block.now listing.old }
     ensures { Went block.now listing.old listing.new }
 {
+    let size = listing.sheet_size();
     let mut rest = block;
     while listing.more && (last || size <= rest.len()) {
         make_room(rt, &mut listing.text)?;

@@ -2,5 +2,6 @@
 #![tactic(auto)]
 
 pub mod blocks;
+pub mod listings;
 pub mod output;
 pub mod saying;

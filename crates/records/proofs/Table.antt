@@ -79,6 +79,9 @@ module _ (t : List ℕ) (i k : ℕ) (o : OnTable t i) where
     pub walk-on : (i < q) × OnTable t q
     walk-on = let w = by_row t o.downhill i q o.on b in (w.1, record { downhill = o.downhill; on = w.2 })
 
+-- what a walk along a path goes by
+pub ruleset paths = (on-here, on-end, on_below, walk-on)
+
 -- ---- the table of a list of stations
 
 module _ (st : List Station) where
@@ -107,10 +110,6 @@ module _ (st : List Station) where
   pub code_row : (r q : ℕ) → row_below st r ≡ Some q → (q < length st) × (q ≡ below_code (row_below st r))
   unfolding below_code
   code_row r q b = ((below-later st r q b).1, rw b)
-
-  pub code-none : (r : ℕ) → row_below st r ≡ None → 255 ≡ below_code (row_below st r)
-  unfolding below_code
-  code-none r b = rw b
 
   module _ (few : length st ≤ 64) where
     table_step : (r : ℕ) → r < length st → step_of (table_of st) r ≡ row_below st r

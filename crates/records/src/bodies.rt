@@ -1,8 +1,9 @@
 // The four bodies of a basin file.
-ghost use Rattle.std.specs.Prelude.{◌≡◌};
+ghost use Rattle.std.specs.Prelude.{◌≡◌, ◌≤◌};
 ghost use Rattle.records.specs.Records.{rows_of, reservoir_count, pattern_count, right_count};
 ghost use Rattle.records.specs.Bodies.{BodiesOf};
 
+use places::report::Shape;
 use sections::Section;
 
 // The records of each section where they stand in the caller's bytes, nothing copied.
@@ -26,7 +27,8 @@ impl<'a> Bodies<'a> {
         }
     }
 
-    // How many stations there are, which is how many rows.
+    // How many stations there are, which is how many rows. Each body has a count of its own, by the bytes of its records: one function for the
+    // four would be told a body and a number.
     pub fn rows(&self) -> usize
         ensures { result ≡ rows_of self.now.stations.now }
     {
@@ -49,5 +51,17 @@ impl<'a> Bodies<'a> {
         ensures { result ≡ right_count self.now.rights.now }
     {
         self.rights.len() / 76
+    }
+
+    // What decides where the numbers of a report stand. The counts are those of an accepted file.
+    pub fn shape(&self) -> Shape
+        requires { let b = self.now in (right_count b.rights.now ≤ 256) × (rows_of b.stations.now ≤ 64) × (reservoir_count b.reservoirs.now ≤ 8) }
+        ensures { let b = self.now in (result.rights ≡ right_count b.rights.now) × (result.rows ≡ rows_of b.stations.now) × (result.reservoirs ≡ reservoir_count b.reservoirs.now) }
+    {
+        Shape {
+            rights: self.right_count(),
+            rows: self.rows(),
+            reservoirs: self.reservoir_count(),
+        }
     }
 }

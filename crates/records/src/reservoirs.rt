@@ -25,7 +25,8 @@ pub fn reservoir_at(reservoirs: &[u8], v: usize) -> ReservoirRecord
     }
 }
 
-// The storage of pair k of the area-capacity table. It and the next differ in a number alone; each has its name in the definitions.
+// The storage of pair k of the area-capacity table. It and the next differ in a number, which one function would be told at each call in
+// place of a name; the definitions have both names.
 #[tactic(auto, unfolding(crate::specs::Records::content_at))]
 pub fn content_at(reservoirs: &[u8], v: usize, k: usize) -> u32
     requires { (v < reservoir_count reservoirs.now) × (k < 4) }

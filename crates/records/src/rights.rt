@@ -13,7 +13,9 @@ pub enum Kind {
     Storage,
 }
 
-// The first 20 bytes of a right's record. Its amounts and return points are read where they stand, when they are asked for.
+// The first 20 bytes of a right's record. Its amounts and return points are read where they stand, when they are asked for. In
+// `reservoir` and `pattern` 255 is document 01's number for none, kept as it stands: a rule of the file says by the right's kind and
+// points whether 255 is asked for or forbidden.
 #[derive(Clone, Copy)]
 pub struct RightRecord {
     pub permit: u32,
@@ -74,7 +76,8 @@ pub fn right_at(rights: &[u8], i: usize) -> RightRecord
     }
 }
 
-// The row of return point k. It and the next differ in a number alone; each has its name in the definitions.
+// The row of return point k. It and the next differ in a number, which one function would be told at each call in place of a
+// name; the definitions have both names.
 #[tactic(auto, unfolding(crate::specs::Records::return_row))]
 pub fn return_row(rights: &[u8], i: usize, k: usize) -> u8
     requires { (i < right_count rights.now) × (k < 4) }

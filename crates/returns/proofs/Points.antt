@@ -54,11 +54,11 @@ lost-more pattern qs q = sum-append (λ (x : Part). deep_loss x.amount pattern) 
 -- the sum with the percent of one more point, and what of the rest it takes
 module _ {t : List ℕ} {pa : List (List ℕ)} {ri : List ℕ} {back : Return} {f a bd : List ℕ} (o : CanGive t pa ri back f a bd)
     (k c p : ℕ) (on : k < back.points) (ec : c ≡ points_up_to ri back.right k) (ep : p ≡ return_percent ri back.right k) where
-  pub percents-in : c + p ≤ 100
-  percents-in = omega (arith, ep, o.points-ok.percents, total-more (return_percent ri back.right) k c ec, sum_to-rises (return_percent ri back.right) (k + 1) back.points (omega arith))
+  pub percents_in : c + p ≤ 100
+  percents_in = omega (arith, ep, o.points-ok.percents, total-more (return_percent ri back.right) k c ec, sum_to-rises (return_percent ri back.right) (k + 1) back.points (omega arith))
 
   pub next_small : back.amount * (c + p) ≤ most_amount * 100
-  next_small = mul-le-mul o.small percents-in
+  next_small = mul-le-mul o.small percents_in
 
 -- ---- the amount at a point
 
@@ -80,15 +80,13 @@ module _ (t f a : List ℕ) (d row : ℕ) (o : RiverOk t f a (roomy + roomy)) (h
   pub can-return : CanReturn t row d f a
   can-return = record {
     row-ok = record { downhill = o.downhill; on = h };
-    places = o.places;
-    places₂ = o.places₂;
     flows = record { fits = λ k e. omega (arith, o.room k (by_in t o.downhill row h k e)) };
     availables = record { fits = λ k e. omega (arith, o.room k (by_in t o.downhill row h k e), o.within k (by_in t o.downhill row h k e)) };
   }
 
 module _ (f a : List ℕ) (p : List ℕ) (d : ℕ) where
-  pub put-nothing : d ≡ 0 → Walked (returned d) p f a f a
-  put-nothing e = record { levels = λ n. rw e (change-idle n (returned 0) p f a returned-zero); flow_size = refl; available_size = refl }
+  pub put_nothing : d ≡ 0 → Walked (returned d) p f a f a
+  put_nothing e = record { levels = λ n. rw e (change-idle n (returned 0) p f a returned-zero) }
 
   module _ (f' a' : List ℕ) (e : Walked (returned d) p f a f' a') where
     pub put-grown : (w : ℕ) → w < 64 → get_or f' w 0 ≤ get_or f w 0 + d
@@ -107,9 +105,6 @@ module _ (t pattern ri : List ℕ) (i rest : ℕ) (f a bd : List ℕ) where
     dues = λ w k l. omega arith;
     lost = refl;
     same = λ j l. refl;
-    size = refl;
-    flow_size = refl;
-    available_size = refl;
     grown = λ w l. omega arith;
     within = h;
     filled = λ j. omega arith;
@@ -121,8 +116,6 @@ module _ (t pattern ri : List ℕ) (i rest : ℕ) (f a bd : List ℕ) where
     pub river-after : RiverOk t f a roomy → RiverOk t f₁ a₁ (roomy + roomy)
     river-after o = record {
       downhill = o.downhill;
-      places = omega (arith, o.places, w.flow_size);
-      places₂ = omega (arith, o.places₂, w.available_size);
       room = λ x l. omega (arith, w.grown x l, o.room x l);
       within = w.within;
     }
@@ -171,9 +164,6 @@ module _ (t pattern ri : List ℕ) (i rest : ℕ) (f a bd : List ℕ) where
           ap (λ (qs : List Part). lost_deep pattern qs) parts_are,
         );
         same = λ j l. split.later.under j (omega arith) ∙ w.same j l;
-        size = split.later.size ∙ w.size;
-        flow_size = back.flow_size ∙ w.flow_size;
-        available_size = back.available_size ∙ w.available_size;
         grown = λ v l. omega (arith, put-grown f₁ a₁ (path_by t q.row) x.at_once f₂ a₂ back v l, w.grown v l, once-le);
         within = λ v l. put-within f₁ a₁ (path_by t q.row) x.at_once f₂ a₂ back v l (w.within v l);
         filled = λ j. omega (arith, lagged-le pattern q.amount (dues_of q.row) bd₁ 11 bd₂ most split.later j, w.filled j, small);
@@ -196,4 +186,4 @@ module _ (t pattern ri : List ℕ) (i rest : ℕ) (f a bd : List ℕ) (e : rest 
       let none : SplitPart = record { at_once = 0; deep = 0 } in
       subst (λ (k : ℕ). Gave t pattern ri i k rest f a bd f a bd 0) (add-one n)
       (gave-more t pattern ri i rest f a bd n f a bd 0 (gave-nothing n (omega arith) (λ k h. rows k (omega arith))) (omega arith) q none f a bd refl most (rows n (omega arith)) (omega arith)
-      (split-nothing pattern q.amount (dues_of q.row) bd none most z refl refl) (put-nothing f a (path_by t q.row) 0 refl))
+      (split-nothing pattern q.amount (dues_of q.row) bd none most z refl refl) (put_nothing f a (path_by t q.row) 0 refl))

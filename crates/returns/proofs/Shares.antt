@@ -1,12 +1,13 @@
 -- Shares by their running sums of percents, one turn of the split, and its end. Assumes nothing.
-use mathlib.Core.List.{List, [], ◌∷◌}
+use mathlib.Core.List.{List, [], ◌∷◌, ◌++◌}
 use mathlib.Core.Path.{◌≡◌, refl, sym, ap, ◌∙◌}
 use Prim.Native.Nat.{ℕ, zero, suc, ◌+◌, ◌-◌, ◌*◌, ◌/◌, ◌≤◌, ◌<◌}
 use native.Mathlib.Nat.{mul-le-mul_left}
 use native.Mathlib.Omega.{arith}
 use native.Mathlib.Decide.{dec_lt}
-use lib.ListN.{length, get_or, set, length-set}
-use lib.Seq.{get_or-set_same, get_or-set_other}
+use lib.ListN.{length, get_or, set, take, drop, get_or-append}
+use lib.Seq.{get_or-set_same, get_or-set_other, length-take-le, get_or-take, get_or-drop}
+use Rattle.std.proofs.lemmas.List.{get_or-append_right}
 use Rattle.general.specs.Sums.{sum, sum_to, up_to}
 use Rattle.general.proofs.Sums.{sum_to-front, sum_to-list, at-le-sum, up_to-le, sum_to-rises}
 use Rattle.general.proofs.Tables.{tab-at}
@@ -48,8 +49,8 @@ module _ (pattern sums : List ℕ) (s : Sums pattern sums) where
   unfolding sums_of
   sum-at k h = ap (λ (l : List ℕ). get_or l k 0) s.running ∙ tab-at (λ j. up_to pattern (suc j)) 12 k 0 h
 
-  pub sums-most : (k : ℕ) → k < 12 → get_or sums k 0 ≤ 100
-  sums-most k h = omega (arith, sum-at k h, up_to-le pattern (suc k), s.good.sum_most)
+  pub sums_most : (k : ℕ) → k < 12 → get_or sums k 0 ≤ 100
+  sums_most k h = omega (arith, sum-at k h, up_to-le pattern (suc k), s.good.sum_most)
 
   sums-rise : (j k : ℕ) → j ≤ k → k < 12 → get_or sums j 0 ≤ get_or sums k 0
   sums-rise j k m h = omega (arith, sum-at j (omega arith), sum-at k h, sum_to-rises (λ i. get_or pattern i 0) (suc j) (suc k) (omega arith))
@@ -68,11 +69,11 @@ module _ (pattern sums : List ℕ) (s : Sums pattern sums) where
     next-share k h = share-at a pattern (suc k) (omega (arith, s.good.twelve)) ∙ rw (sum-at (suc k) (omega arith), sum-at k (omega arith))
 
     -- what has returned by a month: never less than before, never more than the amount
-    pub floors-rise : (k : ℕ) → k < 11 → a * get_or sums k 0 / 100 ≤ a * get_or sums (k + 1) 0 / 100
-    floors-rise k h = omega (arith, mul-le-mul_left a (sums-rise k (k + 1) (omega arith) (omega arith)))
+    pub floors_rise : (k : ℕ) → k < 11 → a * get_or sums k 0 / 100 ≤ a * get_or sums (k + 1) 0 / 100
+    floors_rise k h = omega (arith, mul-le-mul_left a (sums-rise k (k + 1) (omega arith) (omega arith)))
 
-    pub floor-le : (k : ℕ) → k < 12 → a * get_or sums k 0 / 100 ≤ a
-    floor-le k h = omega (arith, mul-le-mul_left a (sums-most k h))
+    pub floor_le : (k : ℕ) → k < 12 → a * get_or sums k 0 / 100 ≤ a
+    floor_le k h = omega (arith, mul-le-mul_left a (sums_most k h))
 
     -- where the sums no longer rise there are no more shares
     no-share : (k j : ℕ) → k ≤ j → j < 11 → get_or sums k 0 ≡ get_or sums 11 0 → get_or (shares a pattern) (suc j) 0 ≡ 0
@@ -104,26 +105,25 @@ module _ (pattern : List ℕ) (a at : ℕ) (l : List ℕ) where
       low (no h) = high (dec_lt j (at + k)) (omega arith)
 
   module _ (sums : List ℕ) (s : Sums pattern sums) (k : ℕ) (l' : List ℕ) (w : Lagged pattern a at k l l') where
-    pub lagged-more : (before next : ℕ) → k < 11 → at + k < length l → before ≡ a * get_or sums k 0 / 100 → next ≡ a * get_or sums (k + 1) 0 / 100
-        → Lagged pattern a at (k + 1) l (set l' (at + k) (get_or l' (at + k) 0 + (next - before)))
-    lagged-more before next n m eb en =
-        let v : ℕ = get_or l' (at + k) 0 + (next - before) in
-        let i : k + 1 ≡ suc k = omega arith in
-        let d : next - before ≡ get_or (shares a pattern) (suc k) 0 = rw (eb, en, i) (sym (next-share pattern sums s a k n)) in
+    pub lagged-more : (i before next : ℕ) → i ≡ at + k → k < 11 → i < length l' → before ≡ a * get_or sums k 0 / 100 → next ≡ a * get_or sums (k + 1) 0 / 100
+        → Lagged pattern a at (k + 1) l (set l' i (get_or l' i 0 + (next - before)))
+    lagged-more i before next ei n m eb en =
+        let v : ℕ = get_or l' i 0 + (next - before) in
+        let f : k + 1 ≡ suc k = omega arith in
+        let d : next - before ≡ get_or (shares a pattern) (suc k) 0 = rw (eb, en, f) (sym (next-share pattern sums s a k n)) in
         record {
-          size = length-set l' (at + k) v ∙ w.size;
-          each = λ j h. by_eqb j k (λ _. get_or (set l' (at + k) v) (at + j) 0 ≡ get_or l (at + j) 0 + get_or (shares a pattern) (suc j) 0)
-              (λ e. rw e (get_or-set_same l' (at + k) v 0 (omega (arith, w.size)) ∙ omega (arith, d, w.over (at + k) (omega arith))))
-              (λ e. get_or-set_other l' (at + k) (at + j) v 0 (λ z. e (omega arith)) ∙ w.each j (omega arith));
-          under = λ j h. get_or-set_other l' (at + k) j v 0 (λ z. omega arith) ∙ w.under j h;
-          over = λ j h. get_or-set_other l' (at + k) j v 0 (λ z. omega arith) ∙ w.over j (omega arith);
+          each = λ j h. by_eqb j k (λ _. get_or (set l' i v) (at + j) 0 ≡ get_or l (at + j) 0 + get_or (shares a pattern) (suc j) 0)
+              (λ e. rw (e, ← ei) (get_or-set_same l' i v 0 m ∙ omega (arith, d, ap (λ (y : ℕ). get_or l y 0) ei, ap (λ (y : ℕ). get_or l' y 0) ei, w.over (at + k) (omega arith))))
+              (λ e. get_or-set_other l' i (at + j) v 0 (λ z. e (omega arith)) ∙ w.each j (omega arith));
+          under = λ j h. get_or-set_other l' i j v 0 (λ z. omega arith) ∙ w.under j h;
+          over = λ j h. get_or-set_other l' i j v 0 (λ z. omega arith) ∙ w.over j (omega arith);
         }
 
     -- ---- its end: the sums no longer rise
 
     module _ (m : k ≤ 11) (same : get_or sums k 0 ≡ get_or sums 11 0) where
       lagged-rest : Lagged pattern a at 11 l l'
-      lagged-rest = record { size = w.size; each = λ j h. pick j h (dec_lt j k); under = w.under; over = λ j h. w.over j (omega arith) }
+      lagged-rest = record { each = λ j h. pick j h (dec_lt j k); under = w.under; over = λ j h. w.over j (omega arith) }
         where
           pick : (j : ℕ) → j < 11 → Dec (j < k) → get_or l' (at + j) 0 ≡ get_or l (at + j) 0 + get_or (shares a pattern) (suc j) 0
           pick j h (yes y) = w.each j y
@@ -140,10 +140,57 @@ module _ (pattern : List ℕ) (a at : ℕ) (l : List ℕ) where
 pub split-le : (pattern : List ℕ) (a at : ℕ) (l l' : List ℕ) (x : SplitPart) → sum pattern ≤ 100 → SplitUp pattern a at l l' x → (x.at_once ≤ a) × (x.deep ≤ a)
 split-le pattern a at l l' x h w = (omega (arith, w.at_once, share-le a pattern 0 h), omega (arith, w.deep, deep-le a pattern))
 
+-- ---- the dues of a row, as a part of the board
+
+module _ (pattern : List ℕ) (a at : ℕ) (bd : List ℕ) (fit : at + 11 ≤ length bd) where
+  -- the board with the part in its place
+  placed : List ℕ → List ℕ
+  placed part = take at bd ++ (part ++ drop 11 (drop at bd))
+
+  front : length (take at bd) ≡ at
+  front = length-take-le at bd (omega arith)
+
+  placed-in : (part : List ℕ) (j : ℕ) → length part ≡ 11 → j < 11 → get_or (placed part) (at + j) 0 ≡ get_or part j 0
+  unfolding placed
+  placed-in part j e h =
+      let i : at + j - at ≡ j = omega arith in
+      get_or-append_right (take at bd) (part ++ drop 11 (drop at bd)) at (at + j) 0 front (omega arith)
+      ∙ ap (λ (k : ℕ). get_or (part ++ drop 11 (drop at bd)) k 0) i
+      ∙ get_or-append part (drop 11 (drop at bd)) 0 j (omega arith)
+
+  placed-under : (part : List ℕ) (j : ℕ) → j < at → get_or (placed part) j 0 ≡ get_or bd j 0
+  unfolding placed
+  placed-under part j h = get_or-append (take at bd) (part ++ drop 11 (drop at bd)) 0 j (omega (arith, front)) ∙ get_or-take at bd j 0 h
+
+  placed-over : (part : List ℕ) (j : ℕ) → length part ≡ 11 → at + 11 ≤ j → get_or (placed part) j 0 ≡ get_or bd j 0
+  unfolding placed
+  placed-over part j e h =
+      let i : at + (11 + (j - at - 11)) ≡ j = omega arith in
+      get_or-append_right (take at bd) (part ++ drop 11 (drop at bd)) at j 0 front (omega arith)
+      ∙ get_or-append_right part (drop 11 (drop at bd)) 11 (j - at) 0 e (omega arith)
+      ∙ get_or-drop 11 (drop at bd) (j - at - 11) 0
+      ∙ get_or-drop at bd (11 + (j - at - 11)) 0
+      ∙ ap (λ (k : ℕ). get_or bd k 0) i
+
+  pub split-placed : (from n : ℕ) (part' : List ℕ) {x : SplitPart} → from ≡ at → n ≡ 11 → length part' ≡ 11
+      → SplitUp pattern a 0 (take n (drop from bd)) part' x → SplitUp pattern a at bd (take from bd ++ (part' ++ drop n (drop from bd))) x
+  unfolding placed
+  split-placed from n part' {x} ef en e w = rw (ef, en) (record {
+    at_once = w.at_once;
+    deep = w.deep;
+    later = record {
+      each = λ j h. let i : 0 + j ≡ j = omega arith in
+          placed-in part' j e h ∙ sym (ap (λ (k : ℕ). get_or part' k 0) i) ∙ w.later.each j h ∙ ap (λ (y : ℕ). y + get_or (shares a pattern) (suc j) 0)
+          (ap (λ (k : ℕ). get_or (take n (drop from bd)) k 0) i ∙ ap (λ (l : List ℕ). get_or l j 0) (rw (ef, en)) ∙ get_or-take 11 (drop at bd) j 0 h ∙ get_or-drop at bd j 0);
+      under = λ j h. placed-under part' j h;
+      over = λ j h. placed-over part' j e h;
+    };
+  })
+
 -- nothing is split into nothing
 pub split-nothing : (pattern : List ℕ) (a at : ℕ) (l : List ℕ) (x : SplitPart) → sum pattern ≤ 100 → a ≡ 0 → x.at_once ≡ 0 → x.deep ≡ 0 → SplitUp pattern a at l l x
 split-nothing pattern a at l x h e eo ed = record {
   at_once = omega (arith, eo, e, share-le a pattern 0 h);
   deep = omega (arith, ed, e, deep-le a pattern);
-  later = record { size = refl; each = λ j i. omega (arith, e, share-le a pattern (suc j) h); under = λ j i. refl; over = λ j i. refl };
+  later = record { each = λ j i. omega (arith, e, share-le a pattern (suc j) h); under = λ j i. refl; over = λ j i. refl };
 }

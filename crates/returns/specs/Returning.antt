@@ -1,9 +1,9 @@
 -- What of a diversion returns: over the return points of a right, as its record has them, then over the months.
 use Rattle.returns.specs.declared.returning.Return.{Return}
-use Rattle.std.specs.Prelude.{List, [], ◌∷◌, ◌≡◌, ℕ, suc, ◌+◌, ◌-◌, ◌*◌, ◌/◌, ◌≤◌, ◌<◌, length, get_or}
+use Rattle.std.specs.Prelude.{List, [], ◌∷◌, ◌≡◌, ℕ, suc, ◌+◌, ◌-◌, ◌*◌, ◌/◌, ◌≤◌, ◌<◌, get_or}
 use Rattle.general.specs.Sums.{sum_to}
 use Rattle.general.specs.Tables.{tab}
-use Rattle.places.specs.Board.{dues_from, due_at, roomy, BoardOk}
+use Rattle.places.specs.Board.{dues_from, due_at, roomy, Roomy}
 use Rattle.rules.specs.River.{Level, along, returned}
 use Rattle.rules.specs.Returns.{Part, lagged, returned_at, lost_deep}
 use Rattle.records.specs.Records.{right_count, return_row, return_percent}
@@ -43,7 +43,7 @@ pub record CanGive (t : List ℕ) (pa : List (List ℕ)) (ri : List ℕ) (back :
   pub points-ok : PointsOk pa ri back.right back.points back.pattern
   pub small : back.amount ≤ most_amount
   pub river : RiverOk t f a roomy
-  pub board : BoardOk bd roomy
+  pub board : Roomy bd roomy
 
 -- ---- what is left: f, a, bd before, f', a', bd' after the first n points, and what went deep; the levels however many rows h are asked after
 
@@ -52,9 +52,6 @@ pub record Gave (t pattern ri : List ℕ) (i n rest : ℕ) (f a bd f' a' bd' : L
   pub dues : (w k : ℕ) → k < 11 → due_at bd' w (suc k) ≡ due_at bd w (suc k) + returned_at pattern w (suc k) (parts_in ri i rest n)
   pub lost : deep ≡ lost_deep pattern (parts_in ri i rest n)
   pub same : (j : ℕ) → j < dues_from → get_or bd' j 0 ≡ get_or bd j 0
-  pub size : length bd' ≡ length bd
-  pub flow_size : length f' ≡ length f
-  pub available_size : length a' ≡ length a
   pub grown : (w : ℕ) → w < 64 → get_or f' w 0 ≤ get_or f w 0 + n * most_amount
   pub within : (w : ℕ) → w < 64 → get_or a' w 0 ≤ get_or f' w 0
   pub filled : (j : ℕ) → get_or bd' j 0 ≤ get_or bd j 0 + n * most_amount

@@ -6,10 +6,13 @@ ghost use Rattle.river.specs.Arrays.{CanReturn, Walked};
 ghost use Rattle.returns.specs.Returning.{CanGive, GaveBy};
 
 use crate::split::{percent_of, split};
+use places::board::BOARD_LENGTH;
 use records::rights::{return_percent, return_row};
 use river::River;
+use river::setting::Setting;
 
 // A share goes back to the river along the path of its row. A share of nothing is no work.
+#[tactic(auto, using(crate::proofs::Points::put_nothing))]
 fn give_share(below: &[u8; 64], river: &mut River, row: usize, share: u64)
     requires { CanReturn below.now row share river.old.flow river.old.available }
     ensures { Walked (returned share) (path_by below.now row) river.old.flow river.old.available river.new.flow river.new.available }
@@ -30,18 +33,20 @@ pub struct Return {
 }
 
 // At each point the share of this month goes back to the river along the point's path; later shares are added to the dues; what
-// goes deep of each point's part is summed.
+// goes deep of each point's part is summed. The patterns are passed by value, a copy that those who return nothing do not pay for. The points
+// go by index: a point is two bytes of the right's record, and the percents add up from point to point.
 fn give_points(
-    below: &[u8; 64],
-    patterns: &[[u8; 12]; 16],
-    rights: &[u8],
+    setting: &Setting,
+    patterns: [[u8; 12]; 16],
     back: Return,
     river: &mut River,
-    board: &mut [u64],
+    board: &mut [u64; BOARD_LENGTH],
 ) -> u64
-    requires { CanGive below.now patterns.now rights.now back river.old.flow river.old.available board.old × (0 < back.points) }
-    ensures { GaveBy below.now (get_or patterns.now back.pattern []) rights.now back river.old.flow river.old.available board.old river.new.flow river.new.available board.new result }
+    requires { let s = setting.now in CanGive s.below.now patterns s.bodies.now.rights.now back river.old.flow river.old.available board.old × (0 < back.points) }
+    ensures { let s = setting.now in GaveBy s.below.now (get_or patterns back.pattern []) s.bodies.now.rights.now back river.old.flow river.old.available board.old river.new.flow river.new.available board.new result }
 {
+    let below = setting.below;
+    let rights = setting.bodies.rights;
     let i = back.right;
     let points = back.points;
     let which = back.pattern;
@@ -65,15 +70,13 @@ fn give_points(
 
 // What returns goes back at the right's points; answers what goes deep. A right without points names no pattern, and many a diversion is 0.
 pub fn give_returns(
-    below: &[u8; 64],
-    patterns: &[[u8; 12]; 16],
-    rights: &[u8],
+    setting: &Setting,
     back: Return,
     river: &mut River,
-    board: &mut [u64],
+    board: &mut [u64; BOARD_LENGTH],
 ) -> u64
-    requires { CanGive below.now patterns.now rights.now back river.old.flow river.old.available board.old }
-    ensures { GaveBy below.now (get_or patterns.now back.pattern []) rights.now back river.old.flow river.old.available board.old river.new.flow river.new.available board.new result }
+    requires { let s = setting.now in CanGive s.below.now s.sums.now s.bodies.now.rights.now back river.old.flow river.old.available board.old }
+    ensures { let s = setting.now in GaveBy s.below.now (get_or s.sums.now back.pattern []) s.bodies.now.rights.now back river.old.flow river.old.available board.old river.new.flow river.new.available board.new result }
 {
     if back.points == 0 {
         return 0;
@@ -81,5 +84,5 @@ pub fn give_returns(
     if back.amount == 0 {
         return 0;
     }
-    give_points(below, patterns, rights, back, river, board)
+    give_points(setting, *setting.sums, back, river, board)
 }

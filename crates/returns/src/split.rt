@@ -1,10 +1,10 @@
 // The split of a return over the twelve months of a delay pattern.
-ghost use Rattle.std.specs.Prelude.{List, ◌≡◌, ℕ, ◌*◌, ◌/◌, ◌≤◌, ◌<◌};
+ghost use Rattle.std.specs.Prelude.{List, ◌≡◌, ℕ, ◌*◌, ◌/◌, ◌≤◌, ◌<◌, length};
 ghost use Rattle.rules.specs.Accepted.{most_amount};
 ghost use Rattle.places.specs.Board.{dues_of};
 ghost use Rattle.returns.specs.Dues.{Sums, CanSplit, SplitUp};
 
-use places::board::dues_of;
+use places::board::{BOARD_LENGTH, MONTHS_DUE, dues_of};
 
 // What of an amount is in the river at once, and what goes deep.
 #[derive(Clone, Copy)]
@@ -25,21 +25,24 @@ pub fn percent_of(a: u64, c: u64) -> u64
     a * c / 100
 }
 
-// Splits a by the running sums of a pattern. The shares of months 1 to 11 are added to the dues from a place on, up to the pattern's last
-// month: the sums no longer rise from there on. What is left of a then goes deep.
-pub fn split_months(sums: &[u8; 12], a: u64, at: usize, dues: &mut [u64]) -> SplitPart
-    requires { CanSplit sums.now a at dues.old }
-    ensures { (pattern : List ℕ) → Sums pattern sums.now → SplitUp pattern a at dues.old dues.new result }
+// Splits a by the running sums of a pattern. The shares of months 1 to 11 are added to the dues of a row, up to the pattern's last month: the
+// sums no longer rise from there on. What is left of a then goes deep. The dues are a slice, of eleven at least: as an array they would be a
+// loan within the loan of the board's part, and the proof that both are put back did not close. They go by index, since each stands beside two
+// sums.
+#[tactic(auto, using(crate::proofs::Shares::sums_most, crate::proofs::Shares::floors_rise, crate::proofs::Shares::floor_le))]
+pub fn split_months(sums: &[u8; 12], a: u64, dues: &mut [u64]) -> SplitPart
+    requires { (MONTHS_DUE ≤ length dues.old) × CanSplit sums.now a dues.old }
+    ensures { (pattern : List ℕ) → Sums pattern sums.now → SplitUp pattern a 0 dues.old dues.new result }
 {
     let whole = sums[11];
     let at_once = percent_of(a, u64::from(sums[0]));
     let mut before = at_once;
-    for k in 0..11 {
+    for k in 0..MONTHS_DUE {
         if sums[k] == whole {
             break;
         }
         let next = percent_of(a, u64::from(sums[k + 1]));
-        dues[at + k] += next - before;
+        dues[k] += next - before;
         before = next;
     }
     SplitPart {
@@ -48,9 +51,9 @@ pub fn split_months(sums: &[u8; 12], a: u64, at: usize, dues: &mut [u64]) -> Spl
     }
 }
 
-// The same to the dues of a row. Where nothing returns there is nothing to do.
-pub fn split(sums: &[u8; 12], a: u64, row: usize, board: &mut [u64]) -> SplitPart
-    requires { (row < 64) × CanSplit sums.now a (dues_of row) board.old }
+// The same to the dues of a row, the part of the board that is theirs. Where nothing returns there is nothing to do.
+pub fn split(sums: &[u8; 12], a: u64, row: usize, board: &mut [u64; BOARD_LENGTH]) -> SplitPart
+    requires { (row < 64) × CanSplit sums.now a board.old }
     ensures { (pattern : List ℕ) → Sums pattern sums.now → SplitUp pattern a (dues_of row) board.old board.new result }
 {
     if a == 0 {
@@ -59,5 +62,6 @@ pub fn split(sums: &[u8; 12], a: u64, row: usize, board: &mut [u64]) -> SplitPar
             deep: 0,
         };
     }
-    split_months(sums, a, dues_of(row), board)
+    let from = dues_of(row);
+    split_months(sums, a, &mut board[from..from + MONTHS_DUE])
 }

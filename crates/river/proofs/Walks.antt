@@ -5,9 +5,8 @@ use mathlib.Core.List.{List, [], ◌∷◌}
 use mathlib.Core.Logic.{◌≢◌}
 use mathlib.Core.Path.{◌≡◌, refl, sym, ◌∙◌}
 use Prim.Native.Nat.{ℕ, ◌+◌, ◌-◌, ◌<◌}
-use native.Mathlib.Omega.{arith}
 use lib.Dec.{ltb}
-use lib.ListN.{length, get_or, set, length-set}
+use lib.ListN.{length, get_or, set}
 use lib.Seq.{get_or-set_same, get_or-set_other}
 use Rattle.general.specs.Tests.{has}
 use Rattle.general.proofs.Search.{has-head, has-tail, has_other, has-none}
@@ -27,8 +26,8 @@ use Rattle.river.proofs.Levels.{change-made, walk-on, walk-done, change-nothing,
 -- ---- what holds at the row itself
 
 module _ (t : List ℕ) (i : ℕ) (o : OnTable t i) where
-  pub room-self : (d : ℕ) (l : List ℕ) → Room d (path_by t i) l → get_or l i 0 + d < 18446744073709551616
-  room-self d l e = e.fits i (by-self t o.downhill i o.on)
+  pub room_self : (d : ℕ) (l : List ℕ) → Room d (path_by t i) l → get_or l i 0 + d < 18446744073709551616
+  room_self d l e = e.fits i (by-self t o.downhill i o.on)
 
   -- the path goes on at the row below, and does not come back
   by_row : (q : ℕ) → step_of t i ≡ Some q → (path_by t i ≡ i ∷ path_by t q) × (has i (path_by t q) ≡ false)
@@ -51,8 +50,6 @@ module _ {can : ℕ → Type 0} {t : List ℕ} {i : ℕ} {f a : List ℕ} (o : C
     pub next-walk : CanWalk can t q (set f i x) (set a i y)
     next-walk = record {
       row-ok = (table.walk-on t i q o.row-ok q b).1;
-      places = rw (length-set f i x) o.places;
-      places₂ = rw (length-set a i y) o.places₂;
       flows = λ k h. let w = further k h in rw (get_or-set_other f i k x 0 w.0) (o.flows k w.1);
       availables = λ k h. let w = further k h in rw (get_or-set_other a i k y 0 w.0) (o.availables k w.1);
     }
@@ -71,27 +68,23 @@ module _ {can : ℕ → Type 0} {t : List ℕ} {i : ℕ} {f a : List ℕ} (o : C
         (λ u. absurd-bool (has-head k i p u) e)
         (λ u. same k (sym (has_other k i p u) ∙ e) ∙ get_or-set_other l i k z 0 u)
 
-    changed-on : (p f' a' : List ℕ) → has i p ≡ false → Changed made p (set f i x) (set a i y) f' a' → Changed made (i ∷ p) f a f' a'
-    changed-on p f' a' off w = record {
-      flow_on = list-on f f' p x (omega (arith, o.row-ok.on, o.places)) mx off w.flow_on w.flow_off;
-      available_on = list-on a a' p y (omega (arith, o.row-ok.on, o.places₂)) my off w.available_on w.available_off;
+    changed-on : i < length f → i < length a → (p f' a' : List ℕ) → has i p ≡ false → Changed made p (set f i x) (set a i y) f' a' → Changed made (i ∷ p) f a f' a'
+    changed-on hf ha p f' a' off w = record {
+      flow_on = list-on f f' p x hf mx off w.flow_on w.flow_off;
+      available_on = list-on a a' p y ha my off w.available_on w.available_off;
       flow_off = list-off f f' p x w.flow_off;
       available_off = list-off a a' p y w.available_off;
-      flow_size = w.flow_size ∙ length-set f i x;
-      available_size = w.available_size ∙ length-set a i y;
     }
 
-    pub changed-row : (q : ℕ) (f' a' : List ℕ) → step_of t i ≡ Some q → Changed made (path_by t q) (set f i x) (set a i y) f' a' → Changed made (path_by t i) f a f' a'
-    changed-row q f' a' b w = let r = by_row t i o.row-ok q b in rw r.0 (changed-on (path_by t q) f' a' r.1 w)
+    pub changed-row : i < length f → i < length a → (q : ℕ) (f' a' : List ℕ) → step_of t i ≡ Some q → Changed made (path_by t q) (set f i x) (set a i y) f' a' → Changed made (path_by t i) f a f' a'
+    changed-row hf ha q f' a' b w = let r = by_row t i o.row-ok q b in rw r.0 (changed-on hf ha (path_by t q) f' a' r.1 w)
 
-    pub changed-end : step_of t i ≡ None → Changed made (path_by t i) f a (set f i x) (set a i y)
-    changed-end b = rw (by_end t o.row-ok.downhill i o.row-ok.on b) (changed-on [] _ _ (has-none i) (record {
+    pub changed-end : i < length f → i < length a → step_of t i ≡ None → Changed made (path_by t i) f a (set f i x) (set a i y)
+    changed-end hf ha b = rw (by_end t o.row-ok.downhill i o.row-ok.on b) (changed-on hf ha [] _ _ (has-none i) (record {
       flow_on = λ k h. absurd-bool h (has-none k);
       available_on = λ k h. absurd-bool h (has-none k);
       flow_off = λ k h. refl;
       available_off = λ k h. refl;
-      flow_size = refl;
-      available_size = refl;
     }))
 
 -- the levels after a walk whose change takes or adds d
@@ -99,8 +92,6 @@ module _ {made : ℕ → ℕ → Type 0} {p f a f' a' : List ℕ} (w : Changed m
   walked-by : (g : Level → Level) → ((k x y : ℕ) → has k p ≡ true → made (get_or f k 0) x → made (get_or a k 0) y → level x y ≡ g (row_level f a k)) → Walked g p f a f' a'
   walked-by g make = record {
     levels = λ n. change-made n g p f a f' a' (λ k h. at k (has k p) refl);
-    flow_size = w.flow_size;
-    available_size = w.available_size;
   }
     where
       at : (k : ℕ) (b : Bool) → has k p ≡ b → row_level f' a' k ≡ cond b (g (row_level f a k)) (row_level f a k)
@@ -123,7 +114,6 @@ module _ (t : List ℕ) (i q : ℕ) (b : step_of t i ≡ Some q) (d x : ℕ) (f 
       let m = o.flows in
       record {
         row-ok = (table.walk-on t i q o.row-ok q b).1;
-        places = rw (length-set f i x) o.places;
         flows = room-on d i x (path_by t q) f w.1 (rw p at m);
       }
 
@@ -137,9 +127,9 @@ has-until i w (x ∷ p) e = by_eqb i x (λ _. has i (until_row w (x ∷ p)) ≡ 
     (λ y. rw (until_stop w x p y) (has-none i))
     (λ y. rw (until-on w x p y, has_other i x (until_row w p) z) (has-until i w p (sym (has_other i x p z) ∙ e))))
 
-module _ (t : List ℕ) (i d stop : ℕ) (f : List ℕ) (o : CanRelease t i d f) where
+module _ (t : List ℕ) (i d stop : ℕ) (f : List ℕ) (h : i < length f) (o : CanRelease t i d f) where
   released-here : (a : List ℕ) → row_level (set f i (get_or f i 0 + d)) a i ≡ released d (row_level f a i)
-  released-here a = flow-here f a i _ (omega (arith, o.row-ok.on, o.places)) ∙ released-level (get_or f i 0) (get_or a i 0) d
+  released-here a = flow-here f a i _ h ∙ released-level (get_or f i 0) (get_or a i 0) d
 
   pub release-row : (q : ℕ) (f' : List ℕ) → step_of t i ≡ Some q → i ≢ stop
       → Raised (released d) (until_row stop (path_by t q)) (set f i (get_or f i 0 + d)) f'
@@ -149,17 +139,15 @@ module _ (t : List ℕ) (i d stop : ℕ) (f : List ℕ) (o : CanRelease t i d f)
       record {
         levels = λ n a. rw (w.0, until-on stop i (path_by t q) ne)
             (walk-on n i (released d) f a _ a (released-here a) (flow-other f a i _) (until_row stop (path_by t q)) f' a (has-until i stop (path_by t q) w.1) (e.levels n a));
-        flow_size = e.flow_size ∙ length-set f i (get_or f i 0 + d);
       }
 
   pub release-end : step_of t i ≡ None → i ≢ stop → Raised (released d) (until_row stop (path_by t i)) f (set f i (get_or f i 0 + d))
   release-end b ne = record {
     levels = λ n a. rw (by_end t o.row-ok.downhill i o.row-ok.on b, until-on stop i [] ne, until_none stop) (walk-done n i (released d) f a _ a (released-here a) (flow-other f a i _));
-    flow_size = length-set f i (get_or f i 0 + d);
   }
 
-  pub release-stop : i ≡ stop → Raised (released d) (until_row stop (path_by t i)) f f
-  release-stop e = record { levels = λ n a. rw (nothing ((step_of t i)) refl) (change-nothing n (released d) f a); flow_size = refl }
+  pub release_stop : i ≡ stop → Raised (released d) (until_row stop (path_by t i)) f f
+  release_stop e = record { levels = λ n a. rw (nothing ((step_of t i)) refl) (change-nothing n (released d) f a) }
     where
       nothing : (x : Option ℕ) → step_of t i ≡ x → until_row stop (path_by t i) ≡ []
       nothing (Some q) b = rw (by_row t i o.row-ok q b).0 (until_stop stop i (path_by t q) e)
@@ -168,9 +156,9 @@ module _ (t : List ℕ) (i d stop : ℕ) (f : List ℕ) (o : CanRelease t i d f)
 -- ---- look
 
 module _ (t : List ℕ) (i low : ℕ) (short : List Bool) (a : List ℕ) (o : CanLook t i low) where
-  pub look-called : get_or short i false ≡ true → Called i ≡ seen_on short a low (path_by t i)
+  pub look_called : get_or short i false ≡ true → Called i ≡ seen_on short a low (path_by t i)
   unfolding seen_on
-  look-called e = go (step_of t i) refl
+  look_called e = go (step_of t i) refl
     where
       go : (x : Option ℕ) → step_of t i ≡ x → Called i ≡ seen_on short a low (path_by t i)
       go (Some q) b = rw ((by_row t i o.row-ok q b).0, e)

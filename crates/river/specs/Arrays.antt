@@ -1,5 +1,5 @@
 -- The arrays of a month as the rules' levels, what each walk along a path asks for, and what it leaves.
-use Rattle.std.specs.Prelude.{Bool, true, false, cond, List, [], ◌∷◌, ◌≡◌, ℕ, ◌+◌, ◌≤◌, ◌<◌, ltb, length, get_or, pos}
+use Rattle.std.specs.Prelude.{Bool, true, false, cond, List, [], ◌∷◌, ◌≡◌, ℕ, ◌+◌, ◌≤◌, ◌<◌, ltb, get_or, pos}
 use Rattle.general.specs.Tables.{tab}
 use Rattle.general.specs.Tests.{has}
 use Rattle.rules.specs.River.{Level, along}
@@ -35,39 +35,30 @@ pub record Enough (d : ℕ) (p l : List ℕ) : Type 0 where
 pub record Room (d : ℕ) (p l : List ℕ) : Type 0 where
   pub fits : (k : ℕ) → has k p ≡ true → get_or l k 0 + d < 18446744073709551616
 
--- the river of a month: a place for each row, available flow at most the flow, and room for more
+-- the river of a month: available flow at most the flow, and room for more
 pub record RiverOk (t f a : List ℕ) (most : ℕ) : Type 0 where
   pub downhill : Downhill t
-  pub places : 64 ≤ length f
-  pub places₂ : 64 ≤ length a
   pub room : (w : ℕ) → w < 64 → get_or f w 0 ≤ most
   pub within : (w : ℕ) → w < 64 → get_or a w 0 ≤ get_or f w 0
 
 -- a change may be made of the flow and of the available flow at each row of the path
 pub record CanWalk (can : ℕ → Type 0) (t : List ℕ) (row : ℕ) (f a : List ℕ) : Type 0 where
   pub row-ok : OnTable t row
-  pub places : 64 ≤ length f
-  pub places₂ : 64 ≤ length a
   pub flows : (k : ℕ) → has k (path_by t row) ≡ true → can (get_or f k 0)
   pub availables : (k : ℕ) → has k (path_by t row) ≡ true → can (get_or a k 0)
 
 pub record CanDivert (t : List ℕ) (row d : ℕ) (f a : List ℕ) : Type 0 where
   pub row-ok : OnTable t row
-  pub places : 64 ≤ length f
-  pub places₂ : 64 ≤ length a
   pub flows : Enough d (path_by t row) f
   pub availables : Enough d (path_by t row) a
 
 pub record CanReturn (t : List ℕ) (row d : ℕ) (f a : List ℕ) : Type 0 where
   pub row-ok : OnTable t row
-  pub places : 64 ≤ length f
-  pub places₂ : 64 ≤ length a
   pub flows : Room d (path_by t row) f
   pub availables : Room d (path_by t row) a
 
 pub record CanRelease (t : List ℕ) (row d : ℕ) (f : List ℕ) : Type 0 where
   pub row-ok : OnTable t row
-  pub places : 64 ≤ length f
   pub flows : Room d (path_by t row) f
 
 pub record CanLook (t : List ℕ) (row low : ℕ) : Type 0 where
@@ -82,16 +73,11 @@ pub record Changed (made : ℕ → ℕ → Type 0) (p f a f' a' : List ℕ) : Ty
   pub available_on : (k : ℕ) → has k p ≡ true → made (get_or a k 0) (get_or a' k 0)
   pub flow_off : (k : ℕ) → has k p ≡ false → get_or f' k 0 ≡ get_or f k 0
   pub available_off : (k : ℕ) → has k p ≡ false → get_or a' k 0 ≡ get_or a k 0
-  pub flow_size : length f' ≡ length f
-  pub available_size : length a' ≡ length a
 
 -- g is done to the level of each row of p and to no other, however many rows are asked after
 pub record Walked (g : Level → Level) (p f a f' a' : List ℕ) : Type 0 where
   pub levels : (n : ℕ) → levels_of n f' a' ≡ along g p (levels_of n f a)
-  pub flow_size : length f' ≡ length f
-  pub available_size : length a' ≡ length a
 
 -- the same of a walk that leaves available flow alone, whatever it is
 pub record Raised (g : Level → Level) (p f f' : List ℕ) : Type 0 where
   pub levels : (n : ℕ) (a : List ℕ) → levels_of n f' a ≡ along g p (levels_of n f a)
-  pub flow_size : length f' ≡ length f

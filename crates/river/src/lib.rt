@@ -1,6 +1,6 @@
 // The river in a month: flow and available flow at each row, and walks along a path. A walk calls itself on the row below. All that a walk
-// is given fits in registers: the river, the table and short rows are 64 places by reference, and the change of a row is the number that it
-// takes or adds; so that its call costs no more than a turn of a loop.
+// is given fits in registers: the river, the table and short rows are 64 places by reference, and the change of a row is a closure that holds
+// the number that it takes or adds; so that its call costs no more than a turn of a loop.
 #![tactic(auto)]
 
 ghost use Rattle.std.specs.Prelude.{◌≡◌, cond, ltb, ◌<◌, get_or};
@@ -11,14 +11,19 @@ ghost use Rattle.river.specs.Arrays.{seen_on, CanDivert, CanReturn, CanRelease, 
 
 use records::network::next_row;
 
-// What a look down a path sees: the row of a right that is short already, or the row with the lowest available flow.
+pub mod setting;
+
+// What a look down a path sees: the row of a right that is short already, or the row with the lowest available flow. Neither is a failure, so
+// that it is an enum of its own and no `Result`.
 #[derive(Clone, Copy)]
 pub enum Seen {
     Called(usize),
     Low(usize),
 }
 
-// Flow and available flow at each row.
+// Flow and available flow at each row. Two lists and not one of pairs: the rules' levels are told by a list of each, a release changes flow
+// alone, and a look reads available flow alone, which in pairs would lie at twice the stride. Short rows are a list of their own, since no
+// walk changes them.
 #[derive(Drop)]
 pub struct River {
     pub flow: [u64; 64],
@@ -54,7 +59,9 @@ impl River {
         self.walk(below, row, move |x| x + d);
     }
 
-    // d more in flow along the path as far as just above the row `stop`.
+    // d more in flow along the path as far as just above the row `stop`. It is not a `walk`, since it changes one list of the two and ends
+    // before the path does.
+    #[tactic(auto, using(crate::proofs::Walks::room_self, crate::proofs::Walks::release_stop))]
     pub fn release(&mut self, below: &[u8; 64], row: usize, stop: usize, d: u64)
         requires { CanRelease below.now row d self.old.flow }
         ensures { Raised (released d) (until_row stop (path_by below.now row)) self.old.flow self.new.flow × (self.new.available ≡ self.old.available) }
@@ -62,7 +69,7 @@ impl River {
         if row == stop {
             return;
         }
-        self.flow[row] = self.flow[row] + d;
+        self.flow[row] += d;
         if let Some(next) = next_row(below, row) {
             self.release(below, next, stop, d);
         }
@@ -81,6 +88,7 @@ impl River {
     }
 
     // The first row down the path at which a right is short; where there is none, the first row with the lowest available flow, `low` being the lowest so far.
+    #[tactic(auto, using(crate::proofs::Walks::look_called))]
     pub fn look(&self, below: &[u8; 64], short: &[bool; 64], row: usize, low: usize) -> Seen
         requires { CanLook below.now row low }
         ensures { result ≡ seen_on short.now self.now.available low (path_by below.now row) }

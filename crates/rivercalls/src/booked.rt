@@ -1,7 +1,7 @@
 // Looks years up in a book of October's basin and runs them on a board that stands in November. The book has two years: 1889, each month of it
 // the worked October's sheet, and 1890, whose March is over the limit at the second and third stations.
+use crate::october::{YEAR_REPORTS, thirteenth};
 use book::find::find_year;
-use places::board::{BOARD_LENGTH, MONTH};
 use printing::saying::{say, say_stock};
 use std::io;
 use years::run::run_year;
@@ -19,9 +19,9 @@ fn look_up<R: Print>(rt: &R, file: &[u8], book: &[u8]) -> io::Result<()> {
     say_listed(rt, "year 1889:", file, book, 1889)
 }
 
-// Twelve reports have 336 numbers. Refusals 9 and 10 come before 6, and 6 before 8.
+// A list that is one number short of twelve reports. Refusals 9 and 10 come before 6, and 6 before 8.
 fn short_lists<R: Print>(rt: &R, file: &[u8], book: &[u8], board: &mut [u64]) -> io::Result<()> {
-    let mut few = [0u64; 335];
+    let mut few = [0u64; YEAR_REPORTS - 1];
     say(
         rt,
         "run of 1888, list of 335:",
@@ -47,12 +47,10 @@ fn refused_runs<R: Print>(
     board: &mut [u64],
     reports: &mut [u64],
 ) -> io::Result<()> {
-    let mut thirteenth = [0u64; BOARD_LENGTH];
-    thirteenth[MONTH] = 12;
     say(
         rt,
         "run of 1890, board of a thirteenth month:",
-        run_year(file, book, 1890, &mut thirteenth, reports),
+        run_year(file, book, 1890, &mut thirteenth(), reports),
     )?;
     say(
         rt,
@@ -63,7 +61,7 @@ fn refused_runs<R: Print>(
 }
 
 pub fn call<R: Print>(rt: &R, file: &[u8], book: &[u8], board: &mut [u64]) -> io::Result<()> {
-    let mut reports = [0u64; 336];
+    let mut reports = [0u64; YEAR_REPORTS];
     look_up(rt, file, book)?;
     short_lists(rt, file, book, board)?;
     refused_runs(rt, file, book, board, &mut reports)?;

@@ -1,9 +1,9 @@
 // The short months of October's five rights: after October, after the whole year and after the next October, which begins the count anew; and
 // boards on which nothing is counted.
+use crate::october::{REPORT, RIGHTS, SHEET, YEAR_REPORTS, fresh_board, thirteenth};
 use crate::saying::{say_months, say_right};
-use fresh::fresh;
 use month::month;
-use places::board::{BOARD_LENGTH, MONTH, WORDS};
+use places::board::WORDS;
 use printing::saying::say;
 use std::io;
 use stock::months::short_months;
@@ -11,8 +11,7 @@ use years::run::run_year;
 
 // Refusals 1, 6 and 7; the last for a board of a thirteenth month.
 fn refused<R: Print>(rt: &R, file: &[u8]) -> io::Result<()> {
-    let mut thirteenth = [0u64; BOARD_LENGTH];
-    thirteenth[MONTH] = 12;
+    let thirteenth = thirteenth();
     say_months(
         rt,
         "short months, no file:",
@@ -32,9 +31,8 @@ fn refused<R: Print>(rt: &R, file: &[u8]) -> io::Result<()> {
 
 // Refusal 7 for words: the first right's with a bit more than twelve months have, and a word of a right that October lacks.
 fn wrong_words<R: Print>(rt: &R, file: &[u8]) -> io::Result<()> {
-    let mut board = [0u64; BOARD_LENGTH];
-    let mut report = [0u64; 28];
-    let _ = fresh(file, &mut board);
+    let mut board = fresh_board(file);
+    let mut report = [0u64; REPORT];
     board[WORDS] = 4096;
     say_months(
         rt,
@@ -44,10 +42,10 @@ fn wrong_words<R: Print>(rt: &R, file: &[u8]) -> io::Result<()> {
     say(
         rt,
         "month, a bit above September's:",
-        month(file, &[2000, 700, 300], &mut board, &mut report),
+        month(file, &SHEET, &mut board, &mut report),
     )?;
     board[WORDS] = 0;
-    board[WORDS + 5] = 1;
+    board[WORDS + RIGHTS] = 1;
     say_months(
         rt,
         "short months, a word of right 5:",
@@ -55,45 +53,40 @@ fn wrong_words<R: Print>(rt: &R, file: &[u8]) -> io::Result<()> {
     )
 }
 
-// Each of the five rights.
-fn count<R: Print>(rt: &R, file: &[u8], board: &[u64]) -> io::Result<()> {
-    for right in 0..5 {
-        say_right(rt, right, short_months(file, board, right))?;
-    }
-    Ok(())
-}
+// The five rights of October; and two that it lacks, which were never short.
+const ALL: [usize; RIGHTS] = [0, 1, 2, 3, 4];
 
-// A right that the basin lacks was never short.
-fn no_right<R: Print>(rt: &R, file: &[u8], board: &[u64]) -> io::Result<()> {
-    for right in [5, usize::MAX] {
+const NONE: [usize; 2] = [RIGHTS, usize::MAX];
+
+fn count<R: Print>(rt: &R, file: &[u8], board: &[u64], rights: &[usize]) -> io::Result<()> {
+    for &right in rights {
         say_right(rt, right, short_months(file, board, right))?;
     }
     Ok(())
 }
 
 pub fn call<R: Print>(rt: &R, file: &[u8], book: &[u8]) -> io::Result<()> {
-    let mut board = [0u64; BOARD_LENGTH];
-    let mut reports = [0u64; 336];
     refused(rt, file)?;
     wrong_words(rt, file)?;
-    let _ = fresh(file, &mut board);
+    let mut board = fresh_board(file);
+    let mut reports = [0u64; YEAR_REPORTS];
     say(
         rt,
         "October of 1889:",
-        month(file, &[2000, 700, 300], &mut board, &mut reports),
+        month(file, &SHEET, &mut board, &mut reports),
     )?;
-    count(rt, file, &board)?;
-    no_right(rt, file, &board)?;
+    count(rt, file, &board, &ALL)?;
+    count(rt, file, &board, &NONE)?;
     say(
         rt,
         "run of 1889, from November:",
         run_year(file, book, 1889, &mut board, &mut reports),
     )?;
-    count(rt, file, &board)?;
+    count(rt, file, &board, &ALL)?;
     say(
         rt,
         "October of 1890:",
-        month(file, &[2000, 700, 300], &mut board, &mut reports),
+        month(file, &SHEET, &mut board, &mut reports),
     )?;
-    count(rt, file, &board)
+    count(rt, file, &board, &ALL)
 }

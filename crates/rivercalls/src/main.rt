@@ -8,20 +8,22 @@ ghost use Rattle.std.specs.Prelude.{◌≤◌, length};
 use files::{FILE_ROOM, fill, open_read};
 use fresh::fresh;
 use month::month;
-use places::board::{BOARD_LENGTH, MONTH};
+use october::{REPORT, SHEET, thirteenth};
+use places::board::BOARD_LENGTH;
 use printing::saying::{say, say_stock};
 use std::io;
 use std::rt::Files;
 
 mod booked;
 mod counting;
+mod october;
 mod saying;
 mod seeping;
 
 // Room for the book of two years.
 const BOOK_ROOM: usize = 4096;
 
-// What can be read of a file, as far as a failure; nothing of one that can't be opened.
+// What can be read of a file, as far as a failure, which the answers to it will show; nothing of one that can't be opened.
 fn read_file<'a, R: Files>(rt: &R, name: &[u8], buf: &'a mut [u8]) -> &'a [u8]
     ensures { length result.now ≤ length buf.old }
 {
@@ -39,29 +41,28 @@ fn wrong_lengths<R: Print>(
     board: &mut [u64],
     report: &mut [u64],
 ) -> io::Result<()> {
-    let sheet = [2000u32, 700, 300, 0];
     let mut short = [0u64; BOARD_LENGTH - 1];
     say(rt, "fresh, board of 1225:", fresh(file, &mut short))?;
     say(
         rt,
         "month, board of 1225:",
-        month(file, &sheet[..3], &mut short, report),
+        month(file, &SHEET, &mut short, report),
     )?;
     say(
         rt,
         "month, runoff of two rows:",
-        month(file, &sheet[..2], board, report),
+        month(file, &SHEET[..2], board, report),
     )?;
     say(
         rt,
         "month, runoff of four rows:",
-        month(file, &sheet, board, report),
+        month(file, &[2000, 700, 300, 0], board, report),
     )?;
-    let mut few = [0u64; 27];
+    let mut few = [0u64; REPORT - 1];
     say(
         rt,
         "month, report of 27:",
-        month(file, &sheet[..3], board, &mut few),
+        month(file, &SHEET, board, &mut few),
     )
 }
 
@@ -73,8 +74,7 @@ fn wrong_numbers<R: Print>(
     report: &mut [u64],
 ) -> io::Result<()> {
     let sheet = [2000u32, 1000000001, 4294967295];
-    let mut thirteenth = [0u64; BOARD_LENGTH];
-    thirteenth[MONTH] = 12;
+    let mut thirteenth = thirteenth();
     say(
         rt,
         "month, board of a thirteenth month:",
@@ -90,16 +90,12 @@ fn wrong_numbers<R: Print>(
 
 fn call<R: Print>(rt: &R, file: &[u8], book: &[u8]) -> io::Result<()> {
     let mut board = [7u64; BOARD_LENGTH];
-    let mut report = [0u64; 28];
+    let mut report = [0u64; REPORT];
     say(rt, "fresh, no file:", fresh(&file[..0], &mut board))?;
     say(rt, "fresh:", fresh(file, &mut board))?;
     wrong_lengths(rt, file, &mut board, &mut report)?;
     wrong_numbers(rt, file, &mut board, &mut report)?;
-    say(
-        rt,
-        "month:",
-        month(file, &[2000, 700, 300], &mut board, &mut report),
-    )?;
+    say(rt, "month:", month(file, &SHEET, &mut board, &mut report))?;
     say_stock(rt, file, &board)?;
     booked::call(rt, file, book, &mut board)
 }

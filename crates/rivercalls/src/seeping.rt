@@ -1,10 +1,7 @@
 // The worked October by other patterns than its own 50, 30 and 20: of the 805 that return of right 1, the pattern's sum decides what goes
 // deep. It is the last number of the report.
-use crate::saying::say_one;
-use fresh::fresh;
+use crate::october::{REPORT, SHAPE, SHEET, fresh_board};
 use month::month;
-use places::board::BOARD_LENGTH;
-use places::report::deep_place;
 use printing::saying::{say, say_stock};
 use std::io;
 
@@ -20,13 +17,13 @@ fn set_percents(file: &mut [u8], percents: [u8; 3]) {
 
 // The month from the fresh board: its answer and, where it is accepted, what went deep, and what it leaves.
 fn run<R: Print>(rt: &R, file: &[u8], what: &str) -> io::Result<()> {
-    let mut board = [0u64; BOARD_LENGTH];
-    let mut report = [0u64; 28];
-    let _ = fresh(file, &mut board);
-    let answer = month(file, &[2000, 700, 300], &mut board, &mut report);
+    let mut board = fresh_board(file);
+    let mut report = [0u64; REPORT];
+    let answer = month(file, &SHEET, &mut board, &mut report);
     say(rt, what, answer)?;
     if answer.is_ok() {
-        say_one(rt, "deep", report[deep_place(5, 3, 1)])?;
+        let deep = report[SHAPE.deep_place()];
+        println!(rt; "deep {deep}")?;
         say_stock(rt, file, &board)?;
     }
     Ok(())

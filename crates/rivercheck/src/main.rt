@@ -16,8 +16,8 @@ fn print_verdict<R: Print>(rt: &R, path: &[u8], file: &[u8]) -> io::Result<()> {
     match check(file) {
         Ok(()) => println!(rt; " accepted"),
         Err(refusal) => {
-            let Answer { number, place } = Answer::from(refusal);
-            println!(rt; " refused {number} {place}")
+            let answer = Answer::from(refusal);
+            println!(rt; " refused {answer}")
         }
     }
 }

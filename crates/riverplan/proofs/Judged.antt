@@ -15,17 +15,16 @@ use Rattle.stock.specs.declared.Totals.{Totals}
 use Rattle.stock.specs.Stock.{stock_of, totals_told}
 use Rattle.stock.proofs.Answers.{Clear, summed-clear}
 
--- a listing on a file and a board
-module _ (l : Listing) (t : Totals) (told : totals_told (Ok t) ≡ stock_of l.file.now l.board.now) where
+-- a listing on a file and a board that is lent as an array
+module _ (l : Listing) (bd : List ℕ) (same : l.board.now ≡ bd) (t : Totals) (told : totals_told (Ok t) ≡ stock_of l.file.now bd) where
   judged : Clear l.file.now l.board.now
-  judged = summed-clear l.file.now l.board.now t told
+  judged = rw same (summed-clear l.file.now bd t told)
 
   pub can-list : (sheets : List ℕ) → length sheets < 9_223_372_036_854_775_808 → l.months < 4_294_967_296 → l.more ≡ true → length l.report.now ≡ most_report → most_text ≤ l.text.room → CanListBlock sheets l
   can-list sheets few early going long room = record {
     step = record {
       in_order = record {
         accepted = judged.file-ok;
-        size = judged.size;
         can = judged.board-ok;
         told = let a = accepted-facts l.file.now judged.file-ok in omega (arith, long, a.few_rows, a.few_rights, a.few_reservoirs);
       };

@@ -1,11 +1,12 @@
 // Months listed from whatever board: a board that was recalled may be any, so it is judged before a month is run on it.
 ghost use Rattle.std.specs.Prelude.{◌≤◌, length};
 
+use answers::Answer;
+use lines::frame::put_refusal;
 use lines::month_lines::MOST_TEXT;
 use lines::text::Text;
 use lister::Listing;
 use places::report::MOST_REPORT;
-use printing::output::write;
 use stock::stock;
 
 // The lines of the months of all sheets for which there is room, counted from the first on; or the line of the board's refusal.
@@ -21,37 +22,28 @@ pub fn list_months<'t>(
     if out.len() < MOST_TEXT {
         return &[];
     }
-    let stocked = stock(file, board);
-    let mut report = [0u64; MOST_REPORT];
-    let mut listing = Listing {
-        file,
-        board,
-        report: &mut report,
-        text: Text::over(out),
-        months: u64::from(first),
-        more: true,
-    };
-    match stocked {
+    let mut text = Text::over(out);
+    match stock(file, board) {
         Ok(_) => {
+            // A board of another length has no stock.
+            let Some(board) = board.as_mut_array() else {
+                return text.into_bytes();
+            };
+            let mut report = [0u64; MOST_REPORT];
+            let mut listing = Listing {
+                file,
+                board,
+                report: &mut report,
+                text,
+                months: u64::from(first),
+                more: true,
+            };
             listing.list_block(sheets, false);
+            listing.text.into_bytes()
         }
-        Err(refusal) => listing.refuse(refusal),
+        Err(refusal) => {
+            put_refusal(&mut text, Answer::from(refusal));
+            text.into_bytes()
+        }
     }
-    listing.text.into_bytes()
-}
-
-// The same, printed.
-pub fn print_months<'t, R: Print + Eprint>(
-    rt: &R,
-    file: &[u8],
-    sheets: &[u8],
-    first: u32,
-    board: &mut [u64],
-    out: &'t mut [u8],
-) -> &'t [u8]
-    ensures { length result.now ≤ length out.old }
-{
-    let text = list_months(file, sheets, first, board, out);
-    let _ = write(rt, text);
-    text
 }

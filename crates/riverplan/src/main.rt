@@ -5,9 +5,11 @@
 use entries::copies::STORE_LENGTH;
 use files::{FILE_ROOM, read_whole};
 use places::board::BOARD_LENGTH;
+use planning::Plan;
 use std::io;
 
 mod listed;
+mod planning;
 mod saying;
 mod trial;
 mod turned_down;
@@ -28,12 +30,14 @@ fn plan<R: Print + Eprint>(rt: &R, file: &[u8], year: &[u8], dry: &[u8]) -> io::
     if year.len() < YEAR {
         return Ok(());
     }
-    let mut board = [0u64; BOARD_LENGTH];
-    let mut store = [0u8; STORE_LENGTH];
-    let winter = &year[..WINTER];
-    let spring = &year[WINTER..];
-    trial::try_dry(rt, file, winter, spring, dry, &mut store, &mut board)?;
-    turned_down::call(rt, file, spring, &mut store, &mut board)
+    let mut plan = Plan {
+        file,
+        store: [0; STORE_LENGTH],
+        board: [0; BOARD_LENGTH],
+    };
+    let (winter, spring) = year.split_at(WINTER);
+    trial::try_dry(rt, &mut plan, winter, spring, dry)?;
+    turned_down::call(rt, &mut plan, spring)
 }
 
 fn main(rt: HostRuntime) -> io::Result<()> {

@@ -1,5 +1,5 @@
-// The calls of a store, each with its line; and the line of a comparison.
-use printing::saying::{say, say_answer};
+// The lines of a store's three calls with one name, and of a comparison.
+use answers::Answer;
 use std::io;
 use store::{drop_name, recall, save};
 
@@ -11,35 +11,10 @@ pub fn ask<R: Print>(
     name: &[u8],
     board: &mut [u64],
 ) -> io::Result<()> {
-    print!(rt; "{what}, save, recall, drop:")?;
-    say_answer(rt, save(store, name, board))?;
-    say_answer(rt, recall(store, name, board))?;
-    say_answer(rt, drop_name(store, name))?;
-    println!(rt; "")
-}
-
-pub fn say_save<R: Print>(
-    rt: &R,
-    what: &str,
-    store: &mut [u8],
-    name: &[u8],
-    board: &[u64],
-) -> io::Result<()> {
-    say(rt, what, save(store, name, board))
-}
-
-pub fn say_recall<R: Print>(
-    rt: &R,
-    what: &str,
-    store: &[u8],
-    name: &[u8],
-    board: &mut [u64],
-) -> io::Result<()> {
-    say(rt, what, recall(store, name, board))
-}
-
-pub fn say_drop<R: Print>(rt: &R, what: &str, store: &mut [u8], name: &[u8]) -> io::Result<()> {
-    say(rt, what, drop_name(store, name))
+    let saved = Answer::from(save(store, name, board));
+    let recalled = Answer::from(recall(store, name, board));
+    let dropped = Answer::from(drop_name(store, name));
+    println!(rt; "{what}, save, recall, drop: {saved} {recalled} {dropped}")
 }
 
 // Whether two texts, the first of so many bytes, are the same.

@@ -1,9 +1,9 @@
 // A dry spring is tried, and then March is returned to.
-ghost use Rattle.std.specs.Prelude.{◌≡◌, ◌≤◌, length};
-ghost use Rattle.places.specs.Board.{board_length};
+ghost use Rattle.std.specs.Prelude.{◌≤◌, length};
 
-use crate::listed::{list_months, print_months};
-use crate::saying::{say_compared, say_recall, say_save};
+use crate::listed::list_months;
+use crate::planning::Plan;
+use crate::saying::say_compared;
 use files::FILE_ROOM;
 use fresh::fresh;
 use lister::Listing;
@@ -15,26 +15,22 @@ use std::io;
 const MARCH: u32 = 5;
 
 // The header, and the fresh board.
-fn begin<R: Print + Eprint>(rt: &R, file: &[u8], board: &mut [u64], out: &mut [u8])
-    requires { (length board.old ≡ board_length) × (82 ≤ length out.old) }
-{
-    let listing = Listing::open(file, board, &mut [], out);
+fn begin<R: Print + Eprint>(rt: &R, plan: &mut Plan, out: &mut [u8; FILE_ROOM]) {
+    let listing = Listing::open(plan.file, &mut plan.board, &mut [], out);
     let _ = write(rt, listing.text.bytes());
 }
 
 // What the dry spring leaves is saved too, so that it can be looked at later.
 fn dry_spring<R: Print + Eprint>(
     rt: &R,
-    file: &[u8],
+    plan: &mut Plan,
     dry: &[u8],
-    store: &mut [u8],
-    board: &mut [u64],
     out: &mut [u8],
 ) -> io::Result<()> {
-    say_save(rt, "save MARCH:", store, b"MARCH   ", board)?;
-    print_months(rt, file, dry, MARCH, board, out);
-    say_save(rt, "save DRY:", store, b"DRY     ", board)?;
-    say_recall(rt, "recall MARCH:", store, b"MARCH   ", board)
+    plan.save(rt, "save MARCH:", b"MARCH   ")?;
+    plan.print_months(rt, dry, MARCH, out);
+    plan.save(rt, "save DRY:", b"DRY     ")?;
+    plan.recall(rt, "recall MARCH:", b"MARCH   ")
 }
 
 // The spring of a year that was run from the fresh board without any trial. The text of its winter is written over.
@@ -62,19 +58,15 @@ fn compare<R: Print>(
 
 pub fn try_dry<R: Print + Eprint>(
     rt: &R,
-    file: &[u8],
+    plan: &mut Plan,
     winter: &[u8],
     spring: &[u8],
     dry: &[u8],
-    store: &mut [u8],
-    board: &mut [u64],
-) -> io::Result<()>
-    requires { length board.old ≡ board_length }
-{
+) -> io::Result<()> {
     let mut out = [0; FILE_ROOM];
-    begin(rt, file, board, &mut out);
-    print_months(rt, file, winter, 0, board, &mut out);
-    dry_spring(rt, file, dry, store, board, &mut out)?;
-    let printed = print_months(rt, file, spring, MARCH, board, &mut out);
-    compare(rt, file, winter, spring, printed)
+    begin(rt, plan, &mut out);
+    plan.print_months(rt, winter, 0, &mut out);
+    dry_spring(rt, plan, dry, &mut out)?;
+    let printed = plan.print_months(rt, spring, MARCH, &mut out);
+    compare(rt, plan.file, winter, spring, printed)
 }

@@ -1,20 +1,19 @@
 // The months of an open file, read in blocks of whole sheets, so that a file of centuries takes no more room than one of a year.
 ghost use Rattle.std.specs.Prelude.{◌≤◌, ◌<◌, length};
-ghost use Rattle.riverrun.specs.Months.{CanListFile, CanListAll};
+ghost use Rattle.printing.specs.Going.{Begun};
 
 use files::reasons::fail;
 use files::{FILE_ROOM, fill};
 use lister::Listing;
-use lister::blocks::sheet_size;
 use printing::blocks::list_read;
-use printing::output::{Unwritten, write};
+use printing::output::Unwritten;
 use std::io::Read;
 
 // The blocks of more months than any disk holds.
 const MOST_BLOCKS: u64 = 140737488355328;
 
 // Reads a block. A read that fails leaves a part that is no whole sheet, so that it is never taken for the end of the file: where it stopped
-// between two sheets, the byte that could not be read stands for that part.
+// between two sheets, the byte that could not be read stands for that part, since whole sheets alone would be listed as a file that ends there.
 fn read_block<'a, R: Eprint, F: Read>(
     rt: &R,
     months: &mut F,
@@ -40,40 +39,25 @@ fn read_block<'a, R: Eprint, F: Read>(
     }
 }
 
-// Block after block, until the listing ends. The blocks are counted, since a proved loop has to end, up to more than any disk holds.
-fn list_blocks<R: Print + Eprint, F: Read>(
-    rt: &R,
-    months: &mut F,
-    path: &[u8],
-    size: usize,
-    block: &mut [u8],
-    listing: &mut Listing,
-) -> Result<(), Unwritten>
-    requires { CanListFile size block.old listing.old }
-{
-    let full = block.len();
-    for _ in 0..MOST_BLOCKS {
-        let got = read_block(rt, months, path, size, block);
-        list_read(rt, listing, size, got, got.len() < full)?;
-        if !listing.more {
-            break;
-        }
-    }
-    Ok(())
-}
-
-// All months of an open file, and then what is left to be written.
+// All months of an open file, block after block, until the listing ends. The blocks are counted, since a proved loop has to end, up to more than
+// any disk holds.
 pub fn list_all<R: Print + Eprint, F: Read>(
     rt: &R,
     months: &mut F,
     path: &[u8],
     listing: &mut Listing,
 ) -> Result<(), Unwritten>
-    requires { CanListAll listing.old }
+    requires { Begun listing.old }
 {
-    let size = sheet_size(listing.file);
+    let size = listing.sheet_size();
     let full = FILE_ROOM - FILE_ROOM % size;
     let mut space = [0; FILE_ROOM];
-    list_blocks(rt, months, path, size, &mut space[..full], listing)?;
-    write(rt, listing.text.bytes())
+    for _ in 0..MOST_BLOCKS {
+        let got = read_block(rt, months, path, size, &mut space[..full]);
+        list_read(rt, listing, got, got.len() < full)?;
+        if !listing.more {
+            break;
+        }
+    }
+    Ok(())
 }

@@ -3,36 +3,31 @@
 #![tactic(auto)]
 
 ghost use Rattle.std.specs.Prelude.{◌<◌};
+ghost use Rattle.printing.specs.Going.{Begun};
 
 use files::reasons::fail;
 use files::words::{WORD_ROOM, word, word_count};
 use files::{FILE_ROOM, open_read, read_whole};
 use lister::Listing;
-use places::board::BOARD_LENGTH;
-use places::report::MOST_REPORT;
-use printing::output::{Unwritten, write};
+use printing::listings::with_listing;
+use printing::output::Unwritten;
 use std::rt::{Env, Files};
 
 mod blocks;
 
-// The listing of a basin. Months that can't be opened are listed as none.
+// The months of a file. Such as can't be opened are listed as none.
 fn list_months<R: Files + Print + Eprint>(
     rt: &R,
-    file: &[u8],
     months: &[u8],
-) -> Result<(), Unwritten> {
-    let mut board = [0u64; BOARD_LENGTH];
-    let mut report = [0u64; MOST_REPORT];
-    let mut out = [0; FILE_ROOM];
-    let mut listing = Listing::open(file, &mut board, &mut report, &mut out);
-    if !listing.more {
-        return write(rt, listing.text.bytes());
-    }
+    listing: &mut Listing,
+) -> Result<(), Unwritten>
+    requires { Begun listing.old }
+{
     match open_read(rt, months) {
-        Ok(mut sheets) => blocks::list_all(rt, &mut sheets, months, &mut listing),
+        Ok(mut sheets) => blocks::list_all(rt, &mut sheets, months, listing),
         Err(e) => {
             fail(rt, months, e);
-            write(rt, listing.text.bytes())
+            Ok(())
         }
     }
 }
@@ -40,7 +35,8 @@ fn list_months<R: Files + Print + Eprint>(
 // The buffer is longer than any basin file that keeps the layout, so a file that is cut here is refused as the whole would be.
 fn list<R: Files + Print + Eprint>(rt: &R, basin: &[u8], months: &[u8]) -> Result<(), Unwritten> {
     let mut space = [0; FILE_ROOM];
-    list_months(rt, read_whole(rt, basin, &mut space), months)
+    let file = read_whole(rt, basin, &mut space);
+    with_listing(rt, file, |listing| list_months(rt, months, listing))
 }
 
 // The names that stand from argument i on; a name that is not there names no file.
@@ -58,9 +54,8 @@ fn main(rt: HostRuntime) {
         let _ = list(&rt, b"basin.bin", b"months.bin");
         return;
     }
-    let listings = count / 2;
-    for k in 0..listings {
-        if list_named(&rt, 2 * k + 1).is_err() {
+    for i in (1..count).step_by(2) {
+        if list_named(&rt, i).is_err() {
             return;
         }
     }

@@ -7,9 +7,7 @@ use native.Mathlib.Omega.{arith}
 use lib.ListN.{length}
 use Rattle.records.specs.Records.{basin_of}
 use Rattle.boards.specs.Board.{possible}
-use Rattle.years.specs.Runs.{CanJudge}
 use Rattle.lines.specs.Texts.{Text}
-use Rattle.listing.specs.Run.{sheet_bytes}
 use Rattle.yearly.specs.Years.{part_left}
 use Rattle.lister.specs.declared.Listing.{Listing}
 use Rattle.lister.specs.Lister.{Kept, InOrder}
@@ -22,7 +20,7 @@ use Rattle.riveryear.specs.Going.{CanListYears, YearWent}
 -- a year is opened after room was made in the text
 module _ {book : List ℕ} {y : ℕ} {l l₂ : Listing} {t : Text} (c : CanListYears 1 l) (list : length t.bytes + t.room ≡ length l.text.bytes + l.text.room) (w : YearOpened book y (record l { text = t }) l₂) where
   kept : Kept l l₂
-  kept = kept-then (record { file = refl; same_board = refl; same_report = refl; board = refl; report = refl; text = list }) w.kept
+  kept = kept-then (record { file = refl; same_board = refl; same_report = refl; report = refl; text = list }) w.kept
 
   in_order : InOrder l₂
   in_order = ordered c.going.in_order kept (ap (λ (b : List ℕ). possible (basin_of l.file.now) b) (opened-board w) ∙ c.going.in_order.can)
@@ -36,15 +34,12 @@ module _ {book : List ℕ} {y : ℕ} {l l₂ : Listing} {t : Text} (c : CanListY
   pub year-ended : YearWent l l₂
   year-ended = record { going = going; counted = omega (arith, same-months); kept = kept }
 
-  pub judged : CanJudge l₂.file.now l₂.board.now
-  judged = record { accepted = in_order.accepted; size = in_order.size; can = in_order.can }
-
   module _ (part : List ℕ) (ep : part ≡ part_left l₂.file.now book y l₂.board.now) where
     few : length part ≤ 3072
-    few = omega (arith, ap length ep, left-most l₂.file.now book y l₂.board.now judged)
+    few = omega (arith, ap length ep, left-most l₂.file.now book y l₂.board.now (record { accepted = in_order.accepted; can = in_order.can }))
 
-    pub can-read : (size : ℕ) → size ≡ sheet_bytes (basin_of l₂.file.now) → l₂.more ≡ true → CanRead size part l₂
-    can-read size e more = record { going = going; bytes = e; more = more; counted = omega (arith, same-months, few, c.counted) }
+    pub can-read : l₂.more ≡ true → CanRead part l₂
+    can-read more = record { going = going; more = more; counted = omega (arith, same-months, few, c.counted) }
 
     pub year-went : (l₃ : Listing) → Went part l₂ l₃ → YearWent l l₃
     year-went l₃ v = record { going = v.going; counted = omega (arith, v.counted, same-months, few); kept = kept-then kept v.kept }

@@ -12,13 +12,6 @@ year_bytes = 3072
 abbrev pub most_asked : ℕ
 most_asked = 1099511627776
 
--- a listing that was opened on an accepted file and goes on, and so many years
-pub record CanListBook (years : ℕ) (l : Listing) : Type 0 where
-  pub going : Going l
-  pub more : l.more ≡ true
-  pub first : l.months ≡ 0
-  pub few : years ≤ most_asked
-
 -- a listing that goes on, and whose months can be counted to the end of so many years
 pub record CanListYears (years : ℕ) (l : Listing) : Type 0 where
   pub going : Going l

@@ -11,10 +11,11 @@ read_on n (c ∷ cs) = elim (between 48 c 57) [ true ↦ read_on (10 * n + (c - 
 abbrev pub most_year : ℕ
 most_year = 4294967295
 
-unfoldable pub year_in : Option ℕ → ℕ
-year_in None = 0
-year_in (Some n) = cond (leb n most_year) n 0
+unfoldable pub year_in : Option ℕ → Option ℕ
+year_in None = None
+year_in (Some n) = cond (leb n most_year) (Some n) None
 
--- The number that the digits make. An empty word, one with another byte and one that is too large name no year, and 0 stands for that: no book lists it.
-unfoldable pub year_named : List ℕ → ℕ
-year_named word = year_in (read_on 0 word)
+-- The number that the digits make. An empty word, one with another byte and one that is too large name no year.
+unfoldable pub year_named : List ℕ → Option ℕ
+year_named [] = None
+year_named (c ∷ cs) = year_in (read_on 0 (c ∷ cs))

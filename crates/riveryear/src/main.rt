@@ -3,14 +3,14 @@
 #![tactic(auto)]
 
 ghost use Rattle.std.specs.Prelude.{◌≤◌};
-ghost use Rattle.riveryear.specs.Going.{most_asked, CanListBook};
+ghost use Rattle.printing.specs.Going.{Begun};
+ghost use Rattle.riveryear.specs.Going.{most_asked};
 
 use files::words::{WORD_ROOM, word, word_count};
 use files::{FILE_ROOM, read_whole};
 use lister::Listing;
-use places::board::BOARD_LENGTH;
-use places::report::MOST_REPORT;
-use printing::output::{Unwritten, write};
+use printing::listings::with_listing;
+use printing::output::Unwritten;
 use std::rt::{Env, Files};
 
 mod picked;
@@ -26,38 +26,28 @@ fn years_asked<R: Env>(rt: &R) -> usize
     word_count(rt).saturating_sub(3).min(MOST_ASKED)
 }
 
-// The years of the book, and then what is left to be written. The buffer is longer than any book that keeps the layout, so a book that is cut
-// here is refused as the whole would be.
+// The years of the book. It is opened only where a year is asked for. The buffer is longer than any book that keeps the layout, so a book that is
+// cut here is refused as the whole would be.
 fn list_book<R: Files + Env + Print + Eprint>(
     rt: &R,
-    years: usize,
     listing: &mut Listing,
 ) -> Result<(), Unwritten>
-    requires { CanListBook years listing.old }
+    requires { Begun listing.old }
 {
+    let years = years_asked(rt);
+    if years == 0 {
+        return Ok(());
+    }
     let mut name = [0; WORD_ROOM];
     let mut space = [0; FILE_ROOM];
     let book = read_whole(rt, word(rt, 2, &mut name), &mut space);
-    picked::list_years(rt, book, years, listing)?;
-    write(rt, listing.text.bytes())
-}
-
-// The listing of a basin. The book is opened only where a year is asked for and the basin is accepted.
-fn list<R: Files + Env + Print + Eprint>(rt: &R, file: &[u8]) -> Result<(), Unwritten> {
-    let mut board = [0u64; BOARD_LENGTH];
-    let mut report = [0u64; MOST_REPORT];
-    let mut out = [0; FILE_ROOM];
-    let mut listing = Listing::open(file, &mut board, &mut report, &mut out);
-    let years = years_asked(rt);
-    if !listing.more || years == 0 {
-        return write(rt, listing.text.bytes());
-    }
-    list_book(rt, years, &mut listing)
+    picked::list_years(rt, book, years, listing)
 }
 
 // The buffer is longer than any basin file that keeps the layout, so a file that is cut here is refused as the whole would be.
 fn main(rt: HostRuntime) {
     let mut name = [0; WORD_ROOM];
     let mut space = [0; FILE_ROOM];
-    let _ = list(&rt, read_whole(&rt, word(&rt, 1, &mut name), &mut space));
+    let file = read_whole(&rt, word(&rt, 1, &mut name), &mut space);
+    let _ = with_listing(&rt, file, |listing| list_book(&rt, listing));
 }

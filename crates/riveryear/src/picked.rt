@@ -3,11 +3,13 @@ ghost use Rattle.riveryear.specs.Going.{CanListYears, YearWent};
 
 use crate::words::year_asked;
 use lister::Listing;
-use lister::blocks::sheet_size;
 use printing::blocks::list_read;
 use printing::output::{Unwritten, make_room};
 use std::rt::Env;
-use yearly::{open_year, sheets_left};
+use yearly::open_year;
+
+// A word that names no year is looked up as this one, which no book lists, so that a book at fault is told before it.
+const NO_YEAR: u32 = 0;
 
 // One year: the refusal of its run, or its months from the board's on.
 fn list_year<R: Print + Eprint>(
@@ -20,14 +22,10 @@ fn list_year<R: Print + Eprint>(
     ensures { YearWent listing.old listing.new }
 {
     make_room(rt, &mut listing.text)?;
-    open_year(listing, book, year);
-    if !listing.more {
-        return Ok(());
+    match open_year(listing, book, year) {
+        Some(sheets) => list_read(rt, listing, sheets, false),
+        None => Ok(()),
     }
-    let board = &mut *listing.board;
-    let sheets = sheets_left(listing.file, book, year, board);
-    let size = sheet_size(listing.file);
-    list_read(rt, listing, size, sheets, false)
 }
 
 // Year after year, until one ends the listing. The first is named by the third argument.
@@ -40,7 +38,8 @@ pub fn list_years<R: Env + Print + Eprint>(
     requires { CanListYears years listing.old }
 {
     for k in 0..years {
-        list_year(rt, book, year_asked(rt, k + 3), listing)?;
+        let year = year_asked(rt, k + 3).unwrap_or(NO_YEAR);
+        list_year(rt, book, year, listing)?;
         if !listing.more {
             break;
         }

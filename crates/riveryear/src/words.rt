@@ -1,4 +1,4 @@
-// Years as words of the command line.
+// Years as words of the command line. The library's `parse` would take a plus sign before the digits, and the definition takes none.
 ghost use Rattle.std.specs.Prelude.{◌≡◌, ◌+◌, ◌-◌, ◌*◌, ◌≤◌, SomeIff};
 ghost use Rattle.std.specs.Char.{IsAsciiDigit};
 ghost use Rattle.riveryear.specs.Words.{most_year, year_named};
@@ -16,21 +16,21 @@ fn with_digit(year: u32, c: u8) -> Option<u32>
     year.checked_mul(10)?.checked_add(u32::from(c - b'0'))
 }
 
-fn year_named(word: &[u8]) -> u32
+fn year_named(word: &[u8]) -> Option<u32>
     ensures { result ≡ year_named word.now }
 {
+    if word.is_empty() {
+        return None;
+    }
     let mut year = 0;
     for &c in word {
-        let Some(longer) = with_digit(year, c) else {
-            return 0;
-        };
-        year = longer;
+        year = with_digit(year, c)?;
     }
-    year
+    Some(year)
 }
 
 // The year that argument i names.
-pub fn year_asked<R: Env>(rt: &R, i: usize) -> u32 {
+pub fn year_asked<R: Env>(rt: &R, i: usize) -> Option<u32> {
     let mut name = [0; WORD_ROOM];
     year_named(word(rt, i, &mut name))
 }

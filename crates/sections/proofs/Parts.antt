@@ -1,38 +1,20 @@
 -- Laws of the file's layout. Assumes nothing.
 use mathlib.Core.Path.{◌≡◌, ap, ◌∙◌}
-use mathlib.Core.Bool.{true, false}
-use mathlib.Core.List.{List, []}
-use Prim.Native.Nat.{ℕ, ◌-◌, ◌≤◌, ◌<◌}
+use mathlib.Core.Bool.{true}
+use mathlib.Core.List.{List}
+use Prim.Native.Nat.{ℕ, ◌-◌, ◌≤◌}
 use native.Mathlib.Nat.{add-sub_cancel_left}
 use native.Mathlib.Omega.{arith}
-use borrow.Author.Tests.{le-leb, lt-leb}
+use borrow.Author.Tests.{le-leb}
 use lib.ListN.{length, take, drop, length-drop}
 use lib.Seq.{length-take-le}
 use Rattle.general.specs.Tests.{◌and◌}
 use Rattle.general.proofs.Tests.{both_of, between-of, eq_of, le_of}
 use Rattle.sections.specs.File.{offset_of, count_of, size_of, end_of, counts_ok, packed, layout_ok, section_of}
 
-module _ (f : List ℕ) where
-  pub layout-short : length f < 32 → layout_ok f ≡ false
-  unfolding layout_ok ◌and◌
-  layout-short h = rw (lt-leb 32 (length f) h)
-
-  pub layout-long : 32 ≤ length f → layout_ok f ≡ (counts_ok f and packed f)
-  unfolding layout_ok ◌and◌
-  layout-long h = rw (le-leb 32 (length f) h)
-
-  pub section-short : (w : ℕ) → length f < 32 → section_of f w ≡ []
-  unfolding section_of ◌and◌
-  section-short w h = rw (lt-leb 32 (length f) h)
-
-  module _ (h : 32 ≤ length f) (w : ℕ) where
-    pub section-over : length f < end_of f w → section_of f w ≡ []
-    unfolding section_of ◌and◌
-    section-over k = rw (le-leb 32 (length f) h, lt-leb (end_of f w) (length f) k)
-
-    pub section-part : end_of f w ≤ length f → section_of f w ≡ take (end_of f w - offset_of f w) (drop (offset_of f w) f)
-    unfolding section_of ◌and◌
-    section-part k = rw (le-leb 32 (length f) h, le-leb (end_of f w) (length f) k, add-sub_cancel_left)
+section-part : (f : List ℕ) → 32 ≤ length f → (w : ℕ) → end_of f w ≤ length f → section_of f w ≡ take (end_of f w - offset_of f w) (drop (offset_of f w) f)
+unfolding section_of ◌and◌
+section-part f h w k = rw (le-leb 32 (length f) h, le-leb (end_of f w) (length f) k, add-sub_cancel_left)
 
 -- ---- what an accepted layout says
 

@@ -1,7 +1,7 @@
 // The table of contents, and the parts of the file that it names.
 #![tactic(auto)]
 
-ghost use Rattle.std.specs.Prelude.{◌≡◌, ◌+◌, ◌≤◌, ◌<◌, length};
+ghost use Rattle.std.specs.Prelude.{◌≡◌, ◌+◌, ◌≤◌, ◌<◌, length, MatchOption};
 ghost use Rattle.sections.specs.File.{width_of, offset_of, count_of, end_of, counts_ok, packed, layout_ok, section_of};
 ghost use Rattle.sections.specs.Sections.{place_of};
 
@@ -38,77 +38,93 @@ impl Section {
         }
     }
 
-    // Where its body starts, by the table.
-    #[tactic(auto, unfolding(crate::specs::File::offset_of))]
-    fn offset(self, file: &[u8]) -> usize
-        requires { 32 ≤ length file.now }
-        ensures { (result ≡ offset_of file.now (place_of self)) × (result < 4294967296) }
-    {
-        le32(file, 8 * self.place()) as usize
-    }
-
-    // The number of its records, by the table.
-    #[tactic(auto, unfolding(crate::specs::File::count_of))]
-    fn count(self, file: &[u8]) -> u32
-        requires { 32 ≤ length file.now }
-        ensures { result ≡ count_of file.now (place_of self) }
-    {
-        le32(file, 8 * self.place() + 4)
-    }
-
-    // Where its body ends, by the table.
-    fn end(self, file: &[u8]) -> usize
-        requires { 32 ≤ length file.now }
-        ensures { result ≡ end_of file.now (place_of self) }
-    {
-        self.offset(file) + self.count(file) as usize * self.width()
-    }
-
-    // Its records where they stand in the caller's file, nothing copied; nothing where the table points past the end.
+    // Its records where they stand in the caller's file, nothing copied. A file whose table is not there, or points past the end, has none:
+    // an empty list and not an `Option`, since the definition takes it so, and all that read a body go by its length.
+    #[tactic(auto, using(general::proofs::Tests::joins), unfolding(crate::specs::File::section_of))]
     pub fn body<'a>(self, file: &'a [u8]) -> &'a [u8]
         ensures { result.now ≡ section_of file.now (place_of self) }
     {
-        if file.len() < 32 {
-            return &file[..0];
-        }
-        let start = self.offset(file);
-        let stop = self.end(file);
+        let Some(contents) = Contents::of(file) else {
+            return &[];
+        };
+        let start = contents.offset(self);
+        let stop = contents.end(self);
         if file.len() < stop {
-            return &file[..0];
+            return &[];
         }
         &file[start..stop]
     }
 }
 
-#[tactic(auto, using(general::proofs::Tests::joins), unfolding(crate::specs::File::counts_ok))]
-fn counts_ok(file: &[u8]) -> bool
-    requires { 32 ≤ length file.now }
-    ensures { result ≡ counts_ok file.now }
-{
-    in_range(1, Section::Stations.count(file), 64)
-        & (Section::Reservoirs.count(file) <= 8)
-        & (Section::Patterns.count(file) <= 16)
-        & (Section::Rights.count(file) <= 256)
+// A file that is long enough for its table of contents, and what the table says.
+#[derive(Clone, Copy)]
+struct Contents<'a> {
+    file: &'a [u8],
+    ghost table: { 32 ≤ length file.now },
 }
 
-#[tactic(auto, using(general::proofs::Tests::joins), unfolding(crate::specs::File::packed))]
-fn is_packed(file: &[u8]) -> bool
-    requires { 32 ≤ length file.now }
-    ensures { result ≡ packed file.now }
-{
-    (Section::Stations.offset(file) == 32)
-        & (Section::Reservoirs.offset(file) == Section::Stations.end(file))
-        & (Section::Patterns.offset(file) == Section::Reservoirs.end(file))
-        & (Section::Rights.offset(file) == Section::Patterns.end(file))
-        & (file.len() == Section::Rights.end(file))
+impl<'a> Contents<'a> {
+    fn of(file: &'a [u8]) -> Option<Contents<'a>>
+        ensures { MatchOption result (length file.now < 32) (λ c. c.file.now ≡ file.now) }
+    {
+        if file.len() < 32 {
+            return None;
+        }
+        Some(Contents { file })
+    }
+
+    // Where a section's body starts.
+    #[tactic(auto, unfolding(crate::specs::File::offset_of))]
+    fn offset(&self, section: Section) -> usize
+        ensures { (result ≡ offset_of self.now.file.now (place_of section)) × (result < 4294967296) }
+    {
+        le32(self.file, 8 * section.place()) as usize
+    }
+
+    // The number of its records.
+    #[tactic(auto, unfolding(crate::specs::File::count_of))]
+    fn count(&self, section: Section) -> u32
+        ensures { result ≡ count_of self.now.file.now (place_of section) }
+    {
+        le32(self.file, 8 * section.place() + 4)
+    }
+
+    // Where its body ends.
+    fn end(&self, section: Section) -> usize
+        ensures { result ≡ end_of self.now.file.now (place_of section) }
+    {
+        self.offset(section) + self.count(section) as usize * section.width()
+    }
+
+    #[tactic(auto, using(general::proofs::Tests::joins), unfolding(crate::specs::File::counts_ok))]
+    fn counts_ok(&self) -> bool
+        ensures { result ≡ counts_ok self.now.file.now }
+    {
+        in_range(1, self.count(Section::Stations), 64)
+            & (self.count(Section::Reservoirs) <= 8)
+            & (self.count(Section::Patterns) <= 16)
+            & (self.count(Section::Rights) <= 256)
+    }
+
+    #[tactic(auto, using(general::proofs::Tests::joins), unfolding(crate::specs::File::packed))]
+    fn is_packed(&self) -> bool
+        ensures { result ≡ packed self.now.file.now }
+    {
+        (self.offset(Section::Stations) == 32)
+            & (self.offset(Section::Reservoirs) == self.end(Section::Stations))
+            & (self.offset(Section::Patterns) == self.end(Section::Reservoirs))
+            & (self.offset(Section::Rights) == self.end(Section::Patterns))
+            & (self.file.len() == self.end(Section::Rights))
+    }
 }
 
 // Whether the table of contents is there and describes the file.
+#[tactic(auto, using(general::proofs::Tests::joins), unfolding(crate::specs::File::layout_ok))]
 pub fn layout_ok(file: &[u8]) -> bool
     ensures { result ≡ layout_ok file.now }
 {
-    if file.len() < 32 {
+    let Some(contents) = Contents::of(file) else {
         return false;
-    }
-    counts_ok(file) & is_packed(file)
+    };
+    contents.counts_ok() & contents.is_packed()
 }

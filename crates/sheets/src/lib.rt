@@ -6,7 +6,8 @@ ghost use Rattle.sheets.specs.Sheets.{sheet_size, sheet_of};
 
 use numbers::bytes::le32;
 
-// A sheet's bytes as its numbers, one to a station.
+// A sheet's bytes as its numbers, one to a station. They are read by index: of what is written through a `zip` of `iter_mut` with
+// `chunks_exact` a proof knows nothing.
 pub fn decode(bytes: &[u8], runoff: &mut [u32])
     requires { sheet_size (length runoff.old) ≤ length bytes.now }
     ensures { runoff.new ≡ sheet_of (length runoff.old) bytes.now }

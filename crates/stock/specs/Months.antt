@@ -1,6 +1,6 @@
 -- The call short_months (02, No. 6): in how many months of the present water year a right was short, for every file, list and place of a right, refusals
 -- included. It is refused as stock is.
-use Rattle.std.specs.Prelude.{List, ℕ, ltb, length, Option, None, Some, Result, Ok, Err}
+use Rattle.std.specs.Prelude.{List, ◌++◌, ℕ, ltb, length, Option, None, Some, Result, Ok, Err, codes, decimal}
 use Rattle.general.specs.Sums.{only}
 use Rattle.general.specs.Tests.{bits_set}
 use Rattle.places.specs.Board.{word_at}
@@ -35,3 +35,7 @@ counted_told (Err r) = record { number = number_of r; place = place_of r; months
 -- and as C and the programs that print have it
 abbrev pub months_told : program.Months → Months
 months_told m = record { number = m.number; place = m.place; months = m.months }
+
+-- and as it is printed
+abbrev pub months_text : program.Months → List ℕ
+months_text m = decimal m.number ++ codes " " ++ decimal m.place ++ codes " " ++ decimal m.months

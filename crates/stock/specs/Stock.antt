@@ -1,5 +1,5 @@
 -- The call stock: the sums of a board, for every file and every list, refusals included.
-use Rattle.std.specs.Prelude.{List, ℕ, Option, None, Some, Result, Ok, Err}
+use Rattle.std.specs.Prelude.{List, ◌++◌, ℕ, Option, None, Some, Result, Ok, Err, codes, decimal}
 use Rattle.rules.specs.declared.Refusal.{Refusal}
 use Rattle.rules.specs.Answers.{Answer, number_of, place_of}
 use Rattle.records.specs.Records.{basin_of}
@@ -32,3 +32,7 @@ totals_told (Err r) = record { number = number_of r; place = place_of r; storage
 -- and as C and the programs that print have it
 abbrev pub stock_told : Sums → Stock
 stock_told s = record { number = s.number; place = s.place; storage = s.storage; due = s.due }
+
+-- and as it is printed
+abbrev pub stock_text : Sums → List ℕ
+stock_text s = decimal s.number ++ codes " " ++ decimal s.place ++ codes " " ++ decimal s.storage ++ codes " " ++ decimal s.due

@@ -1,9 +1,9 @@
 // What a board tells: its stock, which is all water stored and all water on its way back; and the short months of a right.
 #![tactic(auto)]
 
-ghost use Rattle.std.specs.Prelude.{◌≡◌};
+ghost use Rattle.std.specs.Prelude.{◌≡◌, IfOk, Some};
 ghost use Rattle.answers.specs.Answers.{refusal_of};
-ghost use Rattle.stock.specs.Stock.{stock_refusal, stock_of, totals_told, stock_told};
+ghost use Rattle.stock.specs.Stock.{stock_refusal, stock_of, totals_told, stock_told, stock_text};
 
 use answers::Answer;
 use boards::possible::is_possible;
@@ -12,6 +12,7 @@ use filecheck::check::check;
 use places::board::BOARD_LENGTH;
 use records::bodies::Bodies;
 use rules::Refusal;
+use std::fmt;
 
 pub mod months;
 
@@ -32,49 +33,57 @@ pub struct Sums {
     pub due: u64,
 }
 
+// As the programs print it.
+impl fmt::Display for Sums {
+    ghost output = { λ s. Some (stock_text s) };
+
+    fn fmt<W: fmt::Write>(&self, f: &mut fmt::Formatter<W>) -> fmt::Result {
+        let Sums {
+            number,
+            place,
+            storage,
+            due,
+        } = *self;
+        write!(f, "{number} {place} {storage} {due}")
+    }
+}
+
 impl From<Result<Totals, Refusal>> for Sums {
     ghost from_gives = { λ r s. stock_told s ≡ totals_told r };
 
     fn from(totals: Result<Totals, Refusal>) -> Sums {
-        match totals {
-            Ok(Totals { storage, due }) => Sums {
-                number: 0,
-                place: 0,
-                storage,
-                due,
-            },
-            Err(refusal) => {
-                let Answer { number, place } = Answer::from(refusal);
-                Sums {
-                    number,
-                    place,
-                    storage: 0,
-                    due: 0,
-                }
-            }
+        let Answer { number, place } = Answer::from(totals.map(|_| ()));
+        let Totals { storage, due } = totals.unwrap_or(Totals { storage: 0, due: 0 });
+        Sums {
+            number,
+            place,
+            storage,
+            due,
         }
     }
 }
 
-// What is turned down of a file and a board.
-fn judge_board(file: &[u8], board: &[u64]) -> Result<(), Refusal>
-    ensures { refusal_of result ≡ stock_refusal file.now board.now }
+// What is turned down of a file and a board; a board that is not turned down, as an array of its places. The board is the only list, so that of
+// `boards::possible::judge` one test alone would be left.
+fn judge_board<'a>(file: &[u8], board: &'a [u64]) -> Result<&'a [u64; BOARD_LENGTH], Refusal>
+    ensures refused { refusal_of result ≡ stock_refusal file.now board.now }
+    ensures same { IfOk result (λ b. b.now ≡ board.now) }
 {
     check(file)?;
-    if board.len() != BOARD_LENGTH {
+    let Some(board) = board.as_array::<BOARD_LENGTH>() else {
         return Err(Refusal::Lists);
-    }
+    };
     if !is_possible(&Bodies::of(file), board) {
         return Err(Refusal::Board);
     }
-    Ok(())
+    Ok(board)
 }
 
 // Nothing is summed of a board that is refused.
 pub fn stock(file: &[u8], board: &[u64]) -> Result<Totals, Refusal>
     ensures { totals_told result ≡ stock_of file.now board.now }
 {
-    judge_board(file, board)?;
+    let board = judge_board(file, board)?;
     let bodies = Bodies::of(file);
     Ok(Totals {
         storage: storage_sum(bodies.reservoir_count(), board),

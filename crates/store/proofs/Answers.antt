@@ -8,11 +8,12 @@ use native.Mathlib.Omega.{arith}
 use lib.Dec.{eqb}
 use lib.ListN.{length}
 use Rattle.general.specs.Tests.{◌and◌}
-use Rattle.general.proofs.Tests.{eqb-other, and-of, and-true, both_of, eq_of}
+use Rattle.general.proofs.Tests.{eqb-other, eqb_same, and-of, and-true, both_of, eq_of}
 use Rattle.general.proofs.Loops.{and_no, and-not}
 use Rattle.rules.specs.declared.Refusal.{Refusal}
 use Rattle.rules.specs.declared.Refusal.TheVariants.{Lists, Name, Full}
 use Rattle.rules.specs.Answers.{Answer, told, or_else, unless}
+use Rattle.places.specs.Board.{board_length}
 use Rattle.boards.specs.Board.{board_fits}
 use Rattle.answers.specs.Answers.{accepted}
 use Rattle.entries.specs.Entries.{name_length, store_length, board_at, no_name, same_name, first_named, place_for}
@@ -27,13 +28,12 @@ pub record Fitting (s n : List ℕ) (fits : Bool) : Type 0 where
   pub other : fits ≡ true
 
 module _ (s n : List ℕ) (fits : Bool) where
-  pub other-store : (length s ≡ store_length → ⊥) → (store_fits s n and fits) ≡ false
+  pub other_length : (length s ≡ store_length → ⊥) → store_fits s n ≡ false
   unfolding store_fits
-  other-store h = and_no fits (and_no (eqb (length n) name_length) (eqb-other (length s) store_length h))
+  other_length h = and_no (eqb (length n) name_length) (eqb-other (length s) store_length h)
 
-  pub other_name : (length n ≡ name_length → ⊥) → (store_fits s n and fits) ≡ false
-  unfolding store_fits
-  other_name h = and_no fits (and-not (eqb (length s) store_length) (eqb-other (length n) name_length h))
+  pub other-store : (length s ≡ store_length → ⊥) → (store_fits s n and fits) ≡ false
+  other-store h = and_no fits (other_length h)
 
   pub other-list : fits ≡ false → (store_fits s n and fits) ≡ false
   other-list h = and-not (store_fits s n) h
@@ -48,6 +48,14 @@ module _ (s n : List ℕ) (fits : Bool) where
       let f = both_of e in
       let g = both_of f.0 in
       record { store = eq_of g.0; name = eq_of g.1; other = f.1 }
+
+  -- where store and list have their lengths, the name's is left to judge
+  pub judged : length s ≡ store_length → fits ≡ true → name_refusal (eqb (length n) name_length) n ≡ name_refusal (store_fits s n and fits) n
+  unfolding store_fits ◌and◌
+  judged h f = ap (λ (t : Bool). name_refusal t n) (sym
+      (ap (λ (t : Bool). store_fits s n and t) f ∙ and-true (store_fits s n)
+      ∙ ap (λ (k : ℕ). eqb k store_length and eqb (length n) name_length) h
+      ∙ ap (λ (t : Bool). t and eqb (length n) name_length) (eqb_same store_length)))
 
 -- ---- what is turned down before the look-up
 
@@ -73,15 +81,6 @@ by_name t n P down kept = go t (same_name n no_name) kept
     go false z k = down (told Lists) (λ e. omega (arith, e))
     go true true k = down (told Name) (λ e. omega (arith, e))
     go true false k = k refl refl
-
--- a store and a name that are not refused
-pub record Clear (s n : List ℕ) (fits : Bool) : Type 0 where
-  pub lists : Fitting s n fits
-  pub used : same_name n no_name ≡ false
-  pub none-refused : name_refusal (store_fits s n and fits) n ≡ None
-
-pub clear_of : (s n : List ℕ) (fits : Bool) → name_refusal (store_fits s n and fits) n ≡ None → Clear s n fits
-clear_of s n fits = by_name (store_fits s n and fits) n (λ o. o ≡ None → Clear s n fits) (λ a h e. cc) (λ f z e. record { lists = fitting s n fits f; used = z; none-refused = name-none _ n f z })
 
 -- ---- what a call comes to
 
@@ -156,9 +155,13 @@ module _ (s n : List ℕ) where
     unfolding name_means drop_by
     drop-made e g = drop-by (entry e) (meant-some before-drop (first_named s n) Name e clear g)
 
+-- a store and a board of their lengths, beside which a name is judged
+pub board-judged : (s n b : List ℕ) {o : Option Answer} → length s ≡ store_length → length b ≡ board_length → o ≡ name_refusal (eqb (length n) name_length) n → o ≡ name_refusal (store_fits s n and board_fits b) n
+board-judged s n b h k e = e ∙ judged s n (board_fits b) h (rw k (eqb_same board_length))
+
 -- a drop has no other list to judge
-pub drop-judged : (s n : List ℕ) → name_refusal (store_fits s n and true) n ≡ name_refusal (store_fits s n) n
-drop-judged s n = ap (λ (t : Bool). name_refusal t n) (and-true (store_fits s n))
+pub store-judged : (s n : List ℕ) {o : Option Answer} → length s ≡ store_length → o ≡ name_refusal (eqb (length n) name_length) n → o ≡ name_refusal (store_fits s n) n
+store-judged s n h e = e ∙ judged s n true h refl ∙ ap (λ (t : Bool). name_refusal t n) (and-true (store_fits s n))
 
 -- ---- what a call is refused with
 
@@ -173,5 +176,5 @@ save-refused s n b r e = save-down s n b (told r) (sym e)
 pub recall-refused : (s n b : List ℕ) (r : Refusal) → Some (told r) ≡ name_refusal (store_fits s n and board_fits b) n → recalled (told r) b ≡ recall_of s n b
 recall-refused s n b r e = recall-down s n b (told r) (sym e)
 
-pub drop-refused : (s n : List ℕ) (r : Refusal) → Some (told r) ≡ name_refusal (store_fits s n and true) n → stored (told r) s ≡ drop_of s n
-drop-refused s n r e = drop-down s n (told r) (sym (drop-judged s n) ∙ sym e)
+pub drop-refused : (s n : List ℕ) (r : Refusal) → Some (told r) ≡ name_refusal (store_fits s n) n → stored (told r) s ≡ drop_of s n
+drop-refused s n r e = drop-down s n (told r) (sym e)

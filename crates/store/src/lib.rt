@@ -1,41 +1,41 @@
 // Named boards to come back to: a board saved under a name in bytes that the caller lends, recalled from there, and its name dropped.
 #![tactic(auto)]
 
-ghost use Rattle.std.specs.Prelude.{◌≡◌};
-ghost use Rattle.general.specs.Tests.{◌and◌};
+ghost use Rattle.std.specs.Prelude.{◌≡◌, IfOk, eqb, length};
 ghost use Rattle.answers.specs.Answers.{refusal_of, verdict_answer};
-ghost use Rattle.store.specs.Calls.{store_fits, name_refusal, stored, recalled, save_of, recall_of, drop_of};
+ghost use Rattle.entries.specs.Entries.{name_length};
+ghost use Rattle.store.specs.Calls.{name_refusal, stored, recalled, save_of, recall_of, drop_of};
 
 use entries::copies::{STORE_LENGTH, read_board, write_board};
-use entries::names::{NAME_LENGTH, find, fixed, place_for, same_name, write_name};
+use entries::names::{NAME_LENGTH, find, place_for, same_name, write_name};
 use places::board::BOARD_LENGTH;
 use rules::Refusal;
 
-// What is turned down of a store and a name before any look-up; `fits` tells whether the call's other list has its length.
-fn judge(store: &[u8], name: &[u8], fits: bool) -> Result<(), Refusal>
-    ensures { refusal_of result ≡ name_refusal (store_fits store.now name.now and fits) name.now }
+// The bytes of a name that a board may have: eight, and not all of them zero.
+fn id_of(name: &[u8]) -> Result<[u8; NAME_LENGTH], Refusal>
+    ensures refused { refusal_of result ≡ name_refusal (eqb (length name.now) name_length) name.now }
+    ensures same { IfOk result (λ id. id ≡ name.now) }
 {
-    if store.len() != STORE_LENGTH {
+    let Some(&id) = name.as_array::<NAME_LENGTH>() else {
         return Err(Refusal::Lists);
-    }
-    if name.len() != NAME_LENGTH {
-        return Err(Refusal::Lists);
-    }
-    if !fits {
-        return Err(Refusal::Lists);
-    }
-    if same_name(name, [0; 8]) {
+    };
+    if same_name(id, [0; 8]) {
         return Err(Refusal::Name);
     }
-    Ok(())
+    Ok(id)
 }
 
 // All that is refused is refused before the first store.
 pub fn save(store: &mut [u8], name: &[u8], board: &[u64]) -> Result<(), Refusal>
     ensures { stored (verdict_answer result) store.new ≡ save_of store.old name.now board.now }
 {
-    judge(store, name, board.len() == BOARD_LENGTH)?;
-    let id = fixed(name);
+    let Some(store) = store.as_mut_array::<STORE_LENGTH>() else {
+        return Err(Refusal::Lists);
+    };
+    let Some(board) = board.as_array::<BOARD_LENGTH>() else {
+        return Err(Refusal::Lists);
+    };
+    let id = id_of(name)?;
     let entry = place_for(store, id).ok_or(Refusal::Full)?;
     write_name(store, entry, id);
     write_board(store, entry, board);
@@ -45,8 +45,14 @@ pub fn save(store: &mut [u8], name: &[u8], board: &[u64]) -> Result<(), Refusal>
 pub fn recall(store: &[u8], name: &[u8], board: &mut [u64]) -> Result<(), Refusal>
     ensures { recalled (verdict_answer result) board.new ≡ recall_of store.now name.now board.old }
 {
-    judge(store, name, board.len() == BOARD_LENGTH)?;
-    let entry = find(store, fixed(name)).ok_or(Refusal::Name)?;
+    let Some(store) = store.as_array::<STORE_LENGTH>() else {
+        return Err(Refusal::Lists);
+    };
+    let Some(board) = board.as_mut_array::<BOARD_LENGTH>() else {
+        return Err(Refusal::Lists);
+    };
+    let id = id_of(name)?;
+    let entry = find(store, id).ok_or(Refusal::Name)?;
     read_board(store, entry, board);
     Ok(())
 }
@@ -55,8 +61,11 @@ pub fn recall(store: &[u8], name: &[u8], board: &mut [u64]) -> Result<(), Refusa
 pub fn drop_name(store: &mut [u8], name: &[u8]) -> Result<(), Refusal>
     ensures { stored (verdict_answer result) store.new ≡ drop_of store.old name.now }
 {
-    judge(store, name, true)?;
-    let entry = find(store, fixed(name)).ok_or(Refusal::Name)?;
+    let Some(store) = store.as_mut_array::<STORE_LENGTH>() else {
+        return Err(Refusal::Lists);
+    };
+    let id = id_of(name)?;
+    let entry = find(store, id).ok_or(Refusal::Name)?;
     write_name(store, entry, [0; 8]);
     Ok(())
 }

@@ -1,11 +1,10 @@
 -- A whole turn, from what its stages left in the arrays to the rules' turn. Assumes nothing.
-use mathlib.Core.Bool.{Bool, true, false, cond}
 use mathlib.Core.List.{List}
 use mathlib.Core.Path.{◌≡◌, refl, sym, ap, ◌∙◌, subst}
 use Prim.Native.Nat.{ℕ, suc, ◌+◌, ◌-◌, ◌≤◌, ◌<◌}
 use native.Mathlib.Omega.{arith}
 use lib.Dec.{ltb}
-use lib.ListN.{length, set, length-set}
+use lib.ListN.{length}
 use Rattle.places.specs.Board.{due_place, due_at}
 use Rattle.rules.specs.Basin.{Right, rows, pattern_of}
 use Rattle.rules.specs.Returns.{Part, parts_of, returned_at, lost_deep}
@@ -49,7 +48,7 @@ module _ (T : BeforeTurn) where
         ask-is = D.given.asked ∙ ask-is T;
         part-is = D.given.gave.part ∙ part-is T (the_demand D);
         river-is = ap (state_of R.basin D.flow D.available T.short) D.stored
-            ∙ river-stage R (the_part D) T.flow T.available D.flow D.available T.short T.board (D.took.levels (rows R.basin)) T.board-ok.size (unmarked T D.given);
+            ∙ river-stage R (the_part D) T.flow T.available D.flow D.available T.short T.board (D.took.levels (rows R.basin)) T.board-size (unmarked T D.given);
         drawn-is = S.drew.amount ∙ drawn-is R (the_demand D - the_part D) D.flow D.available T.short D.board;
         storage-is = ap (state_of R.basin S.flow D.available T.short) S.drew.board
             ∙ storage-stage-is R S.drawn D.flow D.available S.flow T.short D.board (S.drew.levels (rows R.basin) D.available) (size₁ T D);
@@ -83,13 +82,6 @@ module _ (T : BeforeTurn) where
         ∙ ap (λ (y : ℕ). y + returned_at (pattern_of R.basin r) k (suc j) (parts_in R.rights R.place rest (the_points R))) ((board-moved T S).dues (due_place k j) (omega arith))
         ∙ ap (λ (qs : List Part). due_at T.board k (suc j) + returned_at (pattern_of R.basin r) k (suc j) qs) parts_same
 
-    short_size : length A.short ≡ length T.short
-    short_size = ap length A.finished.marked ∙ go (ltb d (the_demand S.river))
-      where
-        go : (c : Bool) → length (cond c (set T.short (the_record R).row true) T.short) ≡ length T.short
-        go true = length-set T.short (the_record R).row true
-        go false = refl
-
     few_points : the_points R ≤ 4
     few_points = (points-ok R).few
 
@@ -106,7 +98,7 @@ module _ (T : BeforeTurn) where
     kept-all = kept_on R.basin T.board S.river.board A.board
         (subst (Kept R.basin T.board) (sym S.river.stored)
         (kept-stored R.basin T.board (the_reservoir R) few_reservoirs (the_kind R) (capacity_in R.reservoirs (the_reservoir R)) R.place (the_part S.river) storage-there
-        (omega (arith, R.in_list, rights-count R.setting)) (place-most R) T.board-ok.size (unmarked T S.river.given)))
+        (omega (arith, R.in_list, rights-count R.setting)) (place-most R) T.board-size (unmarked T S.river.given)))
         (kept_on R.basin S.river.board S.board A.board
         (subst (Kept R.basin S.river.board) (sym S.drew.board) (kept-drawn R.basin S.river.board (the_reservoir R) few_reservoirs (the_kind R) S.drawn project-there))
         (kept_same R.basin S.board A.board gave-back.same))
@@ -119,10 +111,6 @@ module _ (T : BeforeTurn) where
       dues = dues-are;
       deep = gave-back.lost ∙ ap (lost_deep (pattern_of R.basin r)) parts_same;
       month = gave-back.same 0 (omega arith) ∙ (board-moved T S).month;
-      size = gave-back.size ∙ (board-moved T S).size;
-      flow_size = gave-back.flow_size ∙ S.drew.flow_size ∙ S.river.took.flow_size;
-      available_size = gave-back.available_size ∙ S.river.took.available_size;
-      short_size = short_size;
       grown = λ k h. omega (arith, gave-back.grown k h, few_points, grown₂ T S k h);
       within = gave-back.within;
       filled = λ j. omega (arith, gave-back.filled j, few_points, (board-moved T S).filled j);

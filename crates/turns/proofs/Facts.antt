@@ -18,7 +18,7 @@ use Rattle.records.proofs.Decoded as decoded
 use Rattle.records.proofs.Decoded.{reservoirs-are, rights-are}
 use Rattle.records.proofs.Rows.{rows_are}
 use Rattle.records.proofs.Table.{table-downhill, table-path}
-use Rattle.turns.specs.State.{SettingOf}
+use Rattle.river.specs.Setting.{SettingOf}
 use Rattle.grants.specs.Stages.{capacity_in, home_row}
 
 module _ {b : Basin} {st t rs : List ℕ} {pa : List (List ℕ)} {ri : List ℕ} (w : SettingOf b st t rs pa ri) where

@@ -17,10 +17,11 @@ use Rattle.grants.specs.declared.grants.RiverPart.{RiverPart}
 use Rattle.grants.specs.Grants.{RiverGave}
 use Rattle.grants.specs.Stages.{ask_in, Taken, capacity_in, board_stored, Drawn}
 use Rattle.river.specs.Arrays.{RiverOk}
-use Rattle.places.specs.Board.{BoardOk}
+use Rattle.places.specs.Board.{board_length, Roomy}
 use Rattle.turns.specs.declared.serve.Share.{Share}
 use Rattle.turns.specs.Finish.{Finished, short_reason}
-use Rattle.turns.specs.State.{state_of, SettingOf, Within}
+use Rattle.river.specs.Setting.{SettingOf}
+use Rattle.turns.specs.State.{state_of, Within}
 
 -- ---- the right
 
@@ -74,7 +75,8 @@ pub record BeforeTurn : Type 0 where
   pub short : List Bool
   pub board : List ℕ
   pub river-ok : RiverOk right.table flow available 4000000000000000000
-  pub board-ok : BoardOk board 4000000000000000000
+  pub board-size : length board ≡ board_length
+  pub board-ok : Roomy board 4000000000000000000
   pub marks : 64 ≤ length short
   pub within : Within right.basin board
 

@@ -15,14 +15,14 @@ use Rattle.rules.specs.Month.{turns, after_turns, returned_by, returns_at, deep_
 use Rattle.rules.proofs.Bounds.{StateCapped, turn-capped}
 use Rattle.rules.proofs.Months.{turns-length}
 use Rattle.records.specs.Records.{right_count, right_of}
-use Rattle.turns.specs.State.{state_of, SettingOf, named_by, home_of}
+use Rattle.river.specs.Setting.{SettingOf}
+use Rattle.river.specs.declared.setting.Setting.{Setting}
+use Rattle.turns.specs.State.{state_of, named_by, home_of}
 use Rattle.turns.specs.Lines.{CanLine, LineServed, LinesTo, turns_from, CanServe, ServedTo, Served}
 use Rattle.turns.proofs.Keeping.{kept_on}
 use Rattle.turns.proofs.Facts.{rights-count, right_is}
 use Rattle.turns.proofs.Capped.{within-capped, capped-within}
 use Rattle.turns.proofs.LinesMade.{lines_more}
-
--- ---- no right
 
 -- ---- one right more
 
@@ -89,10 +89,6 @@ module _ {b : Basin} {st t rs : List ℕ} {pa : List (List ℕ)} {ri : List ℕ}
     lost = omega (arith, p.lost, ap (deep_of b) next, deep-next, q.lost, q.turned.deep);
     month = q.turned.month ∙ p.month;
     lines = lines_next;
-    size = q.turned.size ∙ p.size;
-    flow_size = q.turned.flow_size ∙ p.flow_size;
-    available_size = q.turned.available_size ∙ p.available_size;
-    short_size = q.turned.short_size ∙ p.short_size;
     within = q.turned.within;
     grown = λ u o. omega (arith, p.grown u o, q.turned.grown u o);
     filled = λ j. omega (arith, p.filled j, q.turned.filled j);
@@ -106,9 +102,9 @@ module _ {b : Basin} {st t rs : List ℕ} {pa : List (List ℕ)} {ri : List ℕ}
   served-more = subst (λ (n : ℕ). ServedTo b m n f a sh bd rp f'' a'' sh'' bd'' rp'' (c + d)) (omega arith) served-suc
 
 -- the next right may be served
-pub line-ready : {st t rs : List ℕ} {pa : List (List ℕ)} {ri : List ℕ} {m : ℕ} {f a : List ℕ} {sh : List Bool} {bd rp : List ℕ} (can : CanServe st t rs pa ri m f a sh bd rp)
-    {k : ℕ} → k < right_count ri → {f' a' : List ℕ} {sh' : List Bool} {bd' rp' : List ℕ} {c : ℕ} → ServedTo can.basin m k f a sh bd rp f' a' sh' bd' rp' c → CanLine st t rs pa ri k m f' a' sh' bd' rp'
-line-ready {ri = ri} can {k} hk p =
+pub line-ready : {s : Setting} {m : ℕ} {f a : List ℕ} {sh : List Bool} {bd rp : List ℕ} (can : CanServe s m f a bd rp)
+    {k : ℕ} → k < right_count s.bodies.now.rights.now → {f' a' : List ℕ} {sh' : List Bool} {bd' rp' : List ℕ} {c : ℕ} → ServedTo can.basin m k f a sh bd rp f' a' sh' bd' rp' c → CanLine s k m f' a' bd' rp'
+line-ready {s} can {k} hk p =
     let few : k < 256 = omega (arith, hk, rights-count can.setting, can.setting.accepted.few_rights) in
     record {
       ready = record {
@@ -118,13 +114,10 @@ line-ready {ri = ri} can {k} hk p =
         in-year = can.in-year;
         river = record {
           downhill = can.river.downhill;
-          places = omega (arith, can.river.places, p.flow_size);
-          places₂ = omega (arith, can.river.places₂, p.available_size);
           room = λ u o. omega (arith, few, can.river.room u o, p.grown u o);
           within = p.within;
         };
-        board = record { size = p.size ∙ can.board.size; room = record { room = λ j. omega (arith, few, can.board.room.room j, p.filled j) } };
-        marks = omega (arith, can.marks, p.short_size);
+        board = record { room = λ j. omega (arith, few, can.board.room j, p.filled j) };
         within = p.capped;
       };
       line = omega (arith, can.lines, hk, p.lines.size);
@@ -143,10 +136,6 @@ served-all {b} w {m} {k} {f} {a} {sh} {bd} {rp} {f'} {a'} {sh'} {bd'} {rp'} p e 
       lost = omega (arith, p.lost, ap (deep_of b) over);
       month = p.month;
       lines = subst (λ (n : ℕ). LinesTo (turns_from b m (state_of b f a sh bd)) n rp rp') (e ∙ sym (rights-count w)) p.lines;
-      size = p.size;
-      flow_size = p.flow_size;
-      available_size = p.available_size;
-      short_size = p.short_size;
       within = λ u o. p.within u (omega (arith, o, w.accepted.few_rows));
       filled = λ j. omega (arith, p.filled j, e, rights-count w, w.accepted.few_rights);
       capped = p.capped;

@@ -54,7 +54,6 @@ module _ (T : BeforeTurn) where
     place = R.in_list;
     most = place-most R;
     in-year = T.in-year;
-    size = T.board-ok.size;
     stores = λ z. let there : the_reservoir R < reservoir_count R.reservoirs = storage-behind R z in record {
       there = there;
       eight = omega (arith, few_reservoirs R);
@@ -113,11 +112,8 @@ module _ (T : BeforeTurn) where
     pub can-take : CanTake (the_kind R) R.table (the_row R) d T.flow T.available
     can-take = record {
       on = row_on R;
-      places = T.river-ok.places₂;
       divert_ok = λ n. record {
         row-ok = record { downhill = T.river-ok.downhill; on = row_on R };
-        places = T.river-ok.places;
-        places₂ = T.river-ok.places₂;
         flows = record { at_least = λ k h. omega (arith, along-fits n k h, T.river-ok.within k (in_path k h)) };
         availables = record { at_least = along-fits n };
       };
@@ -169,7 +165,7 @@ module _ (T : BeforeTurn) where
     moved₁ = subst (λ (l : List ℕ). BoardMoved T.board l most_amount) (sym D.stored) (stored_moved (the_kind R) (λ z. omega (arith, storage-behind R z, few_reservoirs R)))
 
     pub size₁ : length D.board ≡ board_length
-    size₁ = moved₁.size ∙ T.board-ok.size
+    size₁ = moved₁.size ∙ T.board-size
 
     home-on : the_reservoir R < reservoir_count R.reservoirs → home_row R.reservoirs (the_reservoir R) < 64
     home-on h = omega (arith, home-in R.setting (the_reservoir R) h, few R.setting)
@@ -179,10 +175,8 @@ module _ (T : BeforeTurn) where
       there = λ z. let h : the_reservoir R < reservoir_count R.reservoirs = project-behind R z in (h, omega (arith, few_reservoirs R));
       release_ok = λ z x l. let h : the_reservoir R < reservoir_count R.reservoirs = project-behind R z in record {
         row-ok = record { downhill = T.river-ok.downhill; on = home-on h };
-        places = omega (arith, T.river-ok.places, D.took.flow_size);
         flows = record { fits = λ k q. let c : k < 64 = by_in R.table T.river-ok.downhill (home_row R.reservoirs (the_reservoir R)) (home-on h) k q in omega (arith, l, flow-less k c, T.river-ok.room k c, ask-small D.given) };
       };
-      size = size₁;
     }
 
   -- ---- after the part from storage
@@ -234,7 +228,7 @@ module _ (T : BeforeTurn) where
     within₂ : (k : ℕ) → k < 64 → get_or S.river.available k 0 ≤ get_or S.flow k 0
     within₂ k h = omega (arith, (release-read 64 (the_kind R) S.drawn R.table (home_row R.reservoirs (the_reservoir R)) (the_row R) S.river.flow S.river.available S.flow (S.drew.levels 64 S.river.available) k h).1, within₁ S.river k h)
 
-    pub can-finish : (y : Reason) → CanFinish R.table R.patterns R.rights R.place (the_record R) (the_share S y) S.flow S.river.available T.short S.board
+    pub can-finish : (y : Reason) → CanFinish R.table R.patterns R.rights R.place (the_record R) (the_share S y) S.flow S.river.available S.board
     can-finish y = record {
       small = both_small;
       efficient = omega (arith, (right-good R).efficiency_most, efficiency-is R);
@@ -242,11 +236,8 @@ module _ (T : BeforeTurn) where
       points-ok = points-ok R;
       river = record {
         downhill = T.river-ok.downhill;
-        places = omega (arith, T.river-ok.places, S.drew.flow_size, S.river.took.flow_size);
-        places₂ = omega (arith, T.river-ok.places₂, S.river.took.available_size);
         room = λ k h. omega (arith, grown₂ k h, T.river-ok.room k h);
         within = within₂;
       };
-      board = record { size = board-moved.size ∙ T.board-ok.size; room = record { room = λ j. omega (arith, board-moved.filled j, T.board-ok.room.room j) } };
-      marks = T.marks;
+      board = record { room = λ j. omega (arith, board-moved.filled j, T.board-ok.room j) };
     }

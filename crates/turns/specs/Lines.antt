@@ -1,6 +1,6 @@
 -- All rights of a month in list order: the lines of the report, and what the arrays hold after them.
 use Rattle.std.specs.Prelude.{Bool, List, ◌≡◌, ℕ, suc, ◌+◌, ◌*◌, ◌≤◌, ◌<◌, length, get_or, set, drop}
-use Rattle.places.specs.Board.{month_at, due_at, BoardOk}
+use Rattle.places.specs.Board.{month_at, due_at, Roomy}
 use Rattle.places.specs.Report.{from_river_place, from_storage_place, reason_place, station_place, lines_end}
 use Rattle.rules.specs.Basin.{Basin, rows}
 use Rattle.rules.specs.Turn.{State, number_at, Turn}
@@ -10,9 +10,11 @@ use Rattle.grants.specs.declared.grants.Grant as program
 use Rattle.grants.specs.declared.grants.Reason.{Reason}
 use Rattle.rules.specs.Accepted.{most_amount}
 use Rattle.river.specs.Arrays.{RiverOk}
+use Rattle.river.specs.Setting.{Describes}
+use Rattle.river.specs.declared.setting.Setting.{Setting}
 use Rattle.grants.specs.Stages.{home_row}
 use Rattle.grants.specs.Grants.{why_of}
-use Rattle.turns.specs.State.{state_of, SettingOf, Within, Ready, Kept, Turned, named_by, home_of}
+use Rattle.turns.specs.State.{state_of, Within, Ready, Kept, Turned, named_by, home_of}
 
 -- ---- one line
 
@@ -29,8 +31,8 @@ line_of report k g station =
     set (set (set (set report (from_river_place k) g.from_river) (from_storage_place k) g.from_storage) (reason_place k) (why_of g.reason)) (station_place k) station
 
 -- a turn with its line in the report
-pub record CanLine (st t rs : List ℕ) (pa : List (List ℕ)) (ri : List ℕ) (i m : ℕ) (f a : List ℕ) (sh : List Bool) (bd rp : List ℕ) : Type 0 where
-  pub ready : Ready st t rs pa ri i m f a sh bd
+pub record CanLine (s : Setting) (i m : ℕ) (f a bd rp : List ℕ) : Type 0 where
+  pub ready : Ready s i m f a bd
   pub line : station_place i < length rp
 
 pub record LineServed (b : Basin) (ri : List ℕ) (i m : ℕ) (f a : List ℕ) (sh : List Bool) (bd rp f' a' : List ℕ) (sh' : List Bool) (bd' rp' : List ℕ) (deep : ℕ) : Type 0 where
@@ -55,15 +57,14 @@ pub record LinesTo (ts : List Turn) (k : ℕ) (before after : List ℕ) : Type 0
 abbrev pub turns_from : Basin → ℕ → State → List Turn
 turns_from b m s = turns b m 0 b.rights s
 
-pub record CanServe (st t rs : List ℕ) (pa : List (List ℕ)) (ri : List ℕ) (m : ℕ) (f a : List ℕ) (sh : List Bool) (bd rp : List ℕ) : Type 0 where
+pub record CanServe (s : Setting) (m : ℕ) (f a bd rp : List ℕ) : Type 0 where
   pub basin : Basin
-  pub setting : SettingOf basin st t rs pa ri
+  pub setting : Describes s basin
   pub in-year : m < 12
-  pub river : RiverOk t f a 1000000000000000000
-  pub board : BoardOk bd 1000000000000000000
-  pub marks : 64 ≤ length sh
+  pub river : RiverOk s.below.now f a 1000000000000000000
+  pub board : Roomy bd 1000000000000000000
   pub within : Within basin bd
-  pub lines : lines_end (right_count ri) ≤ length rp
+  pub lines : lines_end (right_count s.bodies.now.rights.now) ≤ length rp
 
 -- k rights are served: what is left of the turns is what the rest of the rights make of the state that the arrays hold
 pub record ServedTo (b : Basin) (m k : ℕ) (f a : List ℕ) (sh : List Bool) (bd rp f' a' : List ℕ) (sh' : List Bool) (bd' rp' : List ℕ) (deep : ℕ) : Type 0 where
@@ -74,10 +75,6 @@ pub record ServedTo (b : Basin) (m k : ℕ) (f a : List ℕ) (sh : List Bool) (b
   pub lost : deep + deep_of b (turns b m k (drop k b.rights) (state_of b f' a' sh' bd')) ≡ deep_of b (turns_from b m (state_of b f a sh bd))
   pub month : month_at bd' ≡ month_at bd
   pub lines : LinesTo (turns_from b m (state_of b f a sh bd)) k rp rp'
-  pub size : length bd' ≡ length bd
-  pub flow_size : length f' ≡ length f
-  pub available_size : length a' ≡ length a
-  pub short_size : length sh' ≡ length sh
   pub within : (w : ℕ) → w < 64 → get_or a' w 0 ≤ get_or f' w 0
   pub grown : (w : ℕ) → w < 64 → get_or f' w 0 ≤ get_or f w 0 + k * (6 * most_amount)
   pub filled : (j : ℕ) → get_or bd' j 0 ≤ get_or bd j 0 + k * (6 * most_amount)
@@ -92,10 +89,6 @@ pub record Served (b : Basin) (m : ℕ) (f a : List ℕ) (sh : List Bool) (bd rp
   pub lost : deep ≡ deep_of b (turns_from b m (state_of b f a sh bd))
   pub month : month_at bd' ≡ month_at bd
   pub lines : LinesTo (turns_from b m (state_of b f a sh bd)) (length b.rights) rp rp'
-  pub size : length bd' ≡ length bd
-  pub flow_size : length f' ≡ length f
-  pub available_size : length a' ≡ length a
-  pub short_size : length sh' ≡ length sh
   pub within : (w : ℕ) → w < rows b → get_or a' w 0 ≤ get_or f' w 0
   pub filled : (j : ℕ) → get_or bd' j 0 ≤ get_or bd j 0 + 1536 * most_amount
   pub capped : Within b bd'

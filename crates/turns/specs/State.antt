@@ -1,16 +1,17 @@
 -- The arrays of a month as the rules' state, and what each stage of a right's turn leaves in them.
-use Rattle.std.specs.Prelude.{Bool, false, List, [], ◌≡◌, ℕ, suc, ◌+◌, ◌*◌, ◌^◌, ◌≤◌, ◌<◌, length, get_or}
+use Rattle.std.specs.Prelude.{Bool, false, List, ◌≡◌, ℕ, suc, ◌+◌, ◌*◌, ◌^◌, ◌≤◌, ◌<◌, length, get_or}
 use Rattle.general.specs.Tables.{tab}
 use Rattle.general.specs.Tests.{bit}
-use Rattle.places.specs.Board.{month_at, storage_at, marks_at, taken_at, due_at, BoardOk}
+use Rattle.places.specs.Board.{month_at, storage_at, marks_at, taken_at, due_at, Roomy}
 use Rattle.rules.specs.Basin.{Basin, Right, rows, reservoir_at, right_at, pattern_of}
 use Rattle.rules.specs.Returns.{parts_of, returned_at, lost_deep}
 use Rattle.rules.specs.Turn.{State, Grant, granted, Turn, turn}
 use Rattle.rules.specs.Month.{reason_number}
-use Rattle.rules.specs.Accepted.{Accepted, most_amount}
-use Rattle.records.specs.Records.{stations_of, reservoirs_of, rights_of, right_count, right_of}
-use Rattle.records.specs.Table.{table_of, sums_of}
+use Rattle.rules.specs.Accepted.{most_amount}
+use Rattle.records.specs.Records.{right_count, right_of}
 use Rattle.river.specs.Arrays.{levels_of, RiverOk}
+use Rattle.river.specs.Setting.{Describes}
+use Rattle.river.specs.declared.setting.Setting.{Setting}
 use Rattle.grants.specs.Grants.{why_of}
 use Rattle.grants.specs.declared.grants.Grant.{Grant as GrantMade}
 use Rattle.grants.specs.declared.grants.Reason.{Reason}
@@ -40,15 +41,7 @@ state_of b f a sh bd = record {
   short = short_of (rows b) sh;
 }
 
--- ---- the basin that the parts of a file describe: bodies st, rs and ri, the table t of rows below, the running sums pa of its patterns
-
-pub record SettingOf (b : Basin) (st t rs : List ℕ) (pa : List (List ℕ)) (ri : List ℕ) : Type 0 where
-  pub accepted : Accepted b
-  pub stations : b.stations ≡ stations_of st
-  pub table : t ≡ table_of b.stations
-  pub reservoirs : b.reservoirs ≡ reservoirs_of rs
-  pub patterns : (k : ℕ) → k < length b.patterns → get_or pa k [] ≡ sums_of (get_or b.patterns k [])
-  pub rights : b.rights ≡ rights_of ri
+-- ---- capacities and limits
 
 -- storages within capacities and water taken within limits, at the board
 pub record Within (b : Basin) (bd : List ℕ) : Type 0 where
@@ -57,14 +50,13 @@ pub record Within (b : Basin) (bd : List ℕ) : Type 0 where
 
 -- ---- what a turn asks for
 
-pub record Ready (st t rs : List ℕ) (pa : List (List ℕ)) (ri : List ℕ) (i m : ℕ) (f a : List ℕ) (sh : List Bool) (bd : List ℕ) : Type 0 where
+pub record Ready (s : Setting) (i m : ℕ) (f a bd : List ℕ) : Type 0 where
   pub basin : Basin
-  pub setting : SettingOf basin st t rs pa ri
-  pub place : i < right_count ri
+  pub setting : Describes s basin
+  pub place : i < right_count s.bodies.now.rights.now
   pub in-year : m < 12
-  pub river : RiverOk t f a 4000000000000000000
-  pub board : BoardOk bd 4000000000000000000
-  pub marks : 64 ≤ length sh
+  pub river : RiverOk s.below.now f a 4000000000000000000
+  pub board : Roomy bd 4000000000000000000
   pub within : Within basin bd
 
 -- ---- what a turn leaves
@@ -100,10 +92,6 @@ pub record Turned (b : Basin) (ri : List ℕ) (i m : ℕ) (f a : List ℕ) (sh :
       → due_at bd' w (suc k) ≡ due_at bd w (suc k) + returned_at (pattern_of b (right_of ri i)) w (suc k) (parts_of (right_of ri i).kind (right_of ri i) (granted (turn b m i (right_of ri i) (state_of b f a sh bd)).grant))
   pub deep : made.deep ≡ lost_deep (pattern_of b (right_of ri i)) (parts_of (right_of ri i).kind (right_of ri i) (granted (turn b m i (right_of ri i) (state_of b f a sh bd)).grant))
   pub month : month_at bd' ≡ month_at bd
-  pub size : length bd' ≡ length bd
-  pub flow_size : length f' ≡ length f
-  pub available_size : length a' ≡ length a
-  pub short_size : length sh' ≡ length sh
   pub grown : (w : ℕ) → w < 64 → get_or f' w 0 ≤ get_or f w 0 + 6 * most_amount
   pub within : (w : ℕ) → w < 64 → get_or a' w 0 ≤ get_or f' w 0
   pub filled : (j : ℕ) → get_or bd' j 0 ≤ get_or bd j 0 + 6 * most_amount

@@ -2,39 +2,44 @@
 ghost use Rattle.std.specs.Prelude.{◌≡◌, ◌+◌, ◌<◌, length};
 ghost use Rattle.places.specs.Report.{station_place};
 ghost use Rattle.rules.specs.Basin.{Basin};
+ghost use Rattle.river.specs.Setting.{Describes};
 ghost use Rattle.records.specs.Records.{rows_of, reservoir_count};
 ghost use Rattle.turns.specs.Lines.{reservoir_station, CanName, line_of, CanLine, LineServed, CanServe, Served};
 ghost use Rattle.grants.specs.Stages.{home_row};
-ghost use Rattle.turns.specs.State.{named_by, SettingOf};
+ghost use Rattle.turns.specs.State.{named_by};
 
-use crate::Setting;
 use crate::serve::{Turn, serve_right};
-use grants::grants::{Grant, Reason, station_number};
+use grants::grants::{Grant, Reason};
+use places::board::BOARD_LENGTH;
 use places::report::{FROM_STORAGE, REASON, STATION, line_place};
 use records::reservoirs::reservoir_at;
-use records::rights::right_at;
+use records::rights::{RightRecord, right_at};
+use records::stations::station_at;
 use river::River;
+use river::setting::Setting;
 
-// The station of reservoir v.
-fn reservoir_station(setting: &Setting, v: usize) -> u64
-    requires { let s = setting.now in (v < reservoir_count s.bodies.now.reservoirs.now) × (home_row s.bodies.now.reservoirs.now v < rows_of s.bodies.now.stations.now) }
-    ensures { result ≡ reservoir_station setting.now.bodies.now.stations.now setting.now.bodies.now.reservoirs.now v }
+// The station of a right's reservoir.
+#[tactic(auto, using(grants::proofs::Looks::number_is))]
+fn reservoir_station(setting: &Setting, right: RightRecord) -> u64
+    requires { let w = setting.now.bodies.now in (right.reservoir < reservoir_count w.reservoirs.now) × (home_row w.reservoirs.now right.reservoir < rows_of w.stations.now) }
+    ensures { let w = setting.now.bodies.now in result ≡ reservoir_station w.stations.now w.reservoirs.now right.reservoir }
 {
-    let reservoir = reservoir_at(setting.bodies.reservoirs, v);
-    u64::from(station_number(setting.bodies.stations, usize::from(reservoir.row)))
+    let reservoir = reservoir_at(setting.bodies.reservoirs, usize::from(right.reservoir));
+    let station = station_at(setting.bodies.stations, usize::from(reservoir.row));
+    u64::from(station.number)
 }
 
-// The station that a reason names; that of the right's reservoir v where its storage gave out.
-#[tactic(auto, unfolding(crate::specs::State::named_by))]
-fn name(setting: &Setting, v: usize, reason: Reason) -> u64
-    requires { CanName setting.now.bodies.now.stations.now setting.now.bodies.now.reservoirs.now v reason }
-    ensures { result ≡ named_by (reservoir_station setting.now.bodies.now.stations.now setting.now.bodies.now.reservoirs.now v) reason }
+// The station that a reason names; that of the right's reservoir where its storage gave out.
+#[tactic(auto, unfolding(crate::specs::State::named_by, grants::specs::Grants::why_of))]
+fn name(setting: &Setting, right: RightRecord, reason: Reason) -> u64
+    requires { let w = setting.now.bodies.now in CanName w.stations.now w.reservoirs.now right.reservoir reason }
+    ensures { let w = setting.now.bodies.now in result ≡ named_by (reservoir_station w.stations.now w.reservoirs.now right.reservoir) reason }
 {
     match reason {
         Reason::Met => 0,
         Reason::Called(s) => u64::from(s),
         Reason::RiverLow(s) => u64::from(s),
-        Reason::StorageOut => reservoir_station(setting, v),
+        Reason::StorageOut => reservoir_station(setting, right),
     }
 }
 
@@ -58,31 +63,31 @@ fn serve_line(
     turn: Turn,
     river: &mut River,
     short: &mut [bool; 64],
-    board: &mut [u64],
+    board: &mut [u64; BOARD_LENGTH],
     report: &mut [u64],
 ) -> u64
-    requires { let s = setting.now in CanLine s.bodies.now.stations.now s.below.now s.bodies.now.reservoirs.now s.sums.now s.bodies.now.rights.now turn.right turn.month river.old.flow river.old.available short.old board.old report.old }
-    ensures { let s = setting.now in (b : Basin) → SettingOf b s.bodies.now.stations.now s.below.now s.bodies.now.reservoirs.now s.sums.now s.bodies.now.rights.now → LineServed b s.bodies.now.rights.now turn.right turn.month river.old.flow river.old.available short.old board.old report.old river.new.flow river.new.available short.new board.new report.new result }
+    requires { CanLine setting.now turn.right turn.month river.old.flow river.old.available board.old report.old }
+    ensures { (b : Basin) → Describes setting.now b → LineServed b setting.now.bodies.now.rights.now turn.right turn.month river.old.flow river.old.available short.old board.old report.old river.new.flow river.new.available short.new board.new report.new result }
 {
     let i = turn.right;
     let right = right_at(setting.bodies.rights, i);
     let grant = serve_right(setting, turn, river, short, board);
-    let station = name(setting, usize::from(right.reservoir), grant.reason);
+    let station = name(setting, right, grant.reason);
     put_line(report, i, grant, station);
     grant.deep
 }
 
-// All rights in list order. Answers what goes deep of all of them.
+// All rights in list order, by index: a right is its record and its line of the report, each by its place. Answers what goes deep of all.
 pub fn serve_all(
     setting: &Setting,
     m: usize,
     river: &mut River,
     short: &mut [bool; 64],
-    board: &mut [u64],
+    board: &mut [u64; BOARD_LENGTH],
     report: &mut [u64],
 ) -> u64
-    requires { let s = setting.now in CanServe s.bodies.now.stations.now s.below.now s.bodies.now.reservoirs.now s.sums.now s.bodies.now.rights.now m river.old.flow river.old.available short.old board.old report.old }
-    ensures { let s = setting.now in (b : Basin) → SettingOf b s.bodies.now.stations.now s.below.now s.bodies.now.reservoirs.now s.sums.now s.bodies.now.rights.now → Served b m river.old.flow river.old.available short.old board.old report.old river.new.flow river.new.available short.new board.new report.new result }
+    requires { CanServe setting.now m river.old.flow river.old.available board.old report.old }
+    ensures { (b : Basin) → Describes setting.now b → Served b m river.old.flow river.old.available short.old board.old report.old river.new.flow river.new.available short.new board.new report.new result }
 {
     let n = setting.bodies.right_count();
     let mut deep: u64 = 0;

@@ -1,15 +1,17 @@
 // The turn of a right, from its demand to its grant.
 ghost use Rattle.std.specs.Prelude.{◌≡◌};
 ghost use Rattle.rules.specs.Basin.{Basin};
+ghost use Rattle.river.specs.Setting.{Describes};
 ghost use Rattle.turns.specs.Finish.{CanFinish, Finished, short_reason};
-ghost use Rattle.turns.specs.State.{Ready, SettingOf, Turned};
+ghost use Rattle.turns.specs.State.{Ready, Turned};
 
-use crate::Setting;
 use grants::grants::{Grant, Reason, river_part};
 use grants::stages::{demand_of, draw, fill, take};
+use places::board::BOARD_LENGTH;
 use records::rights::{Kind, RightRecord, right_at};
 use returns::returning::{Return, give_returns};
 use river::River;
+use river::setting::Setting;
 
 // Whose turn it is, by the right's place in the list, and in which month of the year.
 #[derive(Clone, Copy)]
@@ -45,44 +47,30 @@ fn finish(
     share: Share,
     river: &mut River,
     short: &mut [bool; 64],
-    board: &mut [u64],
+    board: &mut [u64; BOARD_LENGTH],
 ) -> Grant
-    requires { let s = setting.now in CanFinish s.below.now s.sums.now s.bodies.now.rights.now i right share river.old.flow river.old.available short.old board.old }
+    requires { let s = setting.now in CanFinish s.below.now s.sums.now s.bodies.now.rights.now i right share river.old.flow river.old.available board.old }
     ensures { let s = setting.now in Finished s.below.now s.sums.now s.bodies.now.rights.now i right share river.old.flow river.old.available short.old board.old river.new.flow river.new.available short.new board.new result }
 {
-    let part = share.from_river;
-    let stored = share.from_storage;
-    let d = part + stored;
-    let rest = d - d * u64::from(right.efficiency) / 100;
+    let d = share.from_river + share.from_storage;
     let row = usize::from(right.row);
     let back = Return {
         right: i,
         points: usize::from(right.points),
         pattern: usize::from(right.pattern),
-        amount: rest,
+        amount: d - d * u64::from(right.efficiency) / 100,
     };
-    let deep = give_returns(
-        setting.below,
-        setting.sums,
-        setting.bodies.rights,
-        back,
-        river,
-        board,
-    );
-    if d < share.demand {
+    let deep = give_returns(setting, back, river, board);
+    let reason = if d < share.demand {
         short[row] = true;
-        let reason = share.reason;
-        return Grant {
-            from_river: part,
-            from_storage: stored,
-            reason,
-            deep,
-        };
-    }
+        share.reason
+    } else {
+        Reason::Met
+    };
     Grant {
-        from_river: part,
-        from_storage: stored,
-        reason: Reason::Met,
+        from_river: share.from_river,
+        from_storage: share.from_storage,
+        reason,
         deep,
     }
 }
@@ -93,40 +81,20 @@ pub fn serve_right(
     turn: Turn,
     river: &mut River,
     short: &mut [bool; 64],
-    board: &mut [u64],
+    board: &mut [u64; BOARD_LENGTH],
 ) -> Grant
-    requires { let s = setting.now in Ready s.bodies.now.stations.now s.below.now s.bodies.now.reservoirs.now s.sums.now s.bodies.now.rights.now turn.right turn.month river.old.flow river.old.available short.old board.old }
-    ensures { let s = setting.now in (b : Basin) → SettingOf b s.bodies.now.stations.now s.below.now s.bodies.now.reservoirs.now s.sums.now s.bodies.now.rights.now → Turned b s.bodies.now.rights.now turn.right turn.month river.old.flow river.old.available short.old board.old river.new.flow river.new.available short.new board.new result }
+    requires { Ready setting.now turn.right turn.month river.old.flow river.old.available board.old }
+    ensures { (b : Basin) → Describes setting.now b → Turned b setting.now.bodies.now.rights.now turn.right turn.month river.old.flow river.old.available short.old board.old river.new.flow river.new.available short.new board.new result }
 {
     let i = turn.right;
-    let below = setting.below;
-    let reservoirs = setting.bodies.reservoirs;
     let right = right_at(setting.bodies.rights, i);
-    let kind = right.kind;
-    let row = usize::from(right.row);
-    let v = usize::from(right.reservoir);
-    let demand = demand_of(
-        reservoirs,
-        setting.bodies.rights,
-        i,
-        right,
-        turn.month,
-        board,
-    );
-    let seen = river_part(
-        setting.bodies.stations,
-        below,
-        river,
-        short,
-        kind,
-        row,
-        demand,
-    );
+    let demand = demand_of(setting, i, right, turn.month, board);
+    let seen = river_part(setting, river, short, right, demand);
     let part = seen.part;
-    let why = short_reason(kind, seen.reason);
-    take(below, river, kind, row, part);
-    fill(reservoirs, board, kind, v, i, part);
-    let stored = draw(below, reservoirs, river, board, kind, v, row, demand - part);
+    let why = short_reason(right.kind, seen.reason);
+    take(setting, river, right, part);
+    fill(setting, board, i, right, part);
+    let stored = draw(setting, river, board, right, demand - part);
     let share = Share {
         demand,
         from_river: part,

@@ -3,11 +3,10 @@ use Rattle.std.specs.Prelude.{Option, None, Some}
 use mathlib.Core.Bool.{true}
 use mathlib.Core.List.{List, [], append-nil}
 use mathlib.Core.Path.{◌≡◌, refl, sym, ap, ◌∙◌}
-use Prim.Native.Nat.{ℕ, ◌-◌, ◌*◌, ◌≤◌}
+use Prim.Native.Nat.{ℕ, ◌*◌, ◌≤◌}
 use native.Mathlib.Nat.{mul-le-mul}
 use native.Mathlib.Omega.{arith}
-use lib.ListN.{length, take, drop, length-replicate, length-drop, drop_of_length-le}
-use lib.Seq.{take_all}
+use lib.ListN.{length, length-replicate, length-drop}
 use Rattle.general.proofs.Tests.{leb_yes}
 use Rattle.places.specs.Board.{month_at}
 use Rattle.rules.specs.Answers.{Answer}
@@ -16,8 +15,8 @@ use Rattle.rules.specs.Years.{room_for_year}
 use Rattle.records.specs.Records.{basin_of}
 use Rattle.filecheck.proofs.Accepted.{accepted-facts}
 use Rattle.boards.proofs.Bounds.{month-most}
-use Rattle.book.specs.Book.{year_part, part_where, lookup_refusal}
-use Rattle.book.proofs.LookUp.{part-most, found_none}
+use Rattle.book.specs.Book.{year_part}
+use Rattle.book.proofs.LookUp.{part-most, Found}
 use Rattle.years.specs.Years.{run_refusal}
 use Rattle.years.specs.Runs.{CanJudge}
 use Rattle.listing.specs.Listing.{refusal_line}
@@ -27,6 +26,7 @@ use Rattle.lister.specs.declared.Listing.{Listing}
 use Rattle.lister.specs.Lister.{standing, Refused}
 use Rattle.lister.proofs.Lent.{kept_none}
 use Rattle.yearly.specs.Opening.{year_opening, YearOpened}
+use Rattle.yearly.proofs.Years.{year-found}
 
 -- ---- the start of a year
 
@@ -40,12 +40,17 @@ module _ (book : List ℕ) (y : ℕ) (l : Listing) where
     opens : year_opening v (standing l) ≡ year_opening (year_refusal l.file.now book (standing l) y) (standing l)
     opens = ap (λ (x : Option Answer). year_opening x (standing l)) (judged (least_list (basin_of l.file.now)) long-enough)
 
+    -- a year that would not be refused is in the book
+    pub year-there : v ≡ None → Found l.file.now book y
+    year-there e = year-found l.file.now book (standing l) y (sym (judged (least_list (basin_of l.file.now)) long-enough) ∙ e)
+
     pub year-refused : (a : Answer) → v ≡ Some a → (l' : Listing) → Refused a l l' → YearOpened book y l l'
     unfolding year_opening
     year-refused a e l' w = record {
       added = refusal_line a;
       put = w.put;
       equation = (λ z. record { text = refusal_line a; standing = record { months = w.months z; board = w.board z }; more = w.more z }) ∙ rw e at opens;
+      report = w.report;
       kept = w.kept;
     }
 
@@ -55,6 +60,7 @@ module _ (book : List ℕ) (y : ℕ) (l : Listing) where
       added = [];
       put = record { bytes = sym (append-nil l.text.bytes); room = omega arith; within = omega arith };
       equation = (λ z. record { text = []; standing = standing l; more = more z }) ∙ rw e at opens;
+      report = refl;
       kept = kept_none l;
     }
 
@@ -85,15 +91,7 @@ module _ (f : List ℕ) (board : List ℕ) (c : CanJudge f board) {size m : ℕ}
   first_small = mul-le-mul {n₁ = size} {m₁ = m} {n₂ = 256} {m₂ = 11} (omega (arith, es, (accepted-facts f c.accepted).few_rows)) (omega (arith, em, month-most (basin_of f) board c.can))
 
   module _ (book : List ℕ) (y : ℕ) where
-    pub first-within : {part : List ℕ} → None ≡ lookup_refusal f book y → part ≡ year_part f book y → size * m ≤ length part
-    first-within e ep =
-        let g = found_none f book y (sym e) in
+    pub first-within : {part : List ℕ} → Found f book y → part ≡ year_part f book y → size * m ≤ length part
+    first-within g ep =
         let k : size * m ≤ size * 12 = mul-le-mul {n₁ = size} {m₁ = m} {n₂ = size} {m₂ = 12} (omega arith) (omega (arith, em, month-most (basin_of f) board c.can)) in
         omega (arith, k, es, g.size, ap (λ (x : List ℕ). length x) ep)
-
-    pub left-none : (a : Answer) → Some a ≡ lookup_refusal f book y → [] ≡ part_left f book y board
-    unfolding year_part part_where
-    left-none a e = rw (← e) (sym (drop_of_length-le [] {i = sheet_bytes (basin_of f) * month_at board} (omega arith)))
-
-    pub left-some : {part : List ℕ} → part ≡ year_part f book y → take (length part - size * m) (drop (size * m) part) ≡ part_left f book y board
-    left-some {part} ep = take_all (length part - size * m) (drop (size * m) part) (omega (arith, length-drop (size * m) part)) ∙ (λ z. drop (es z * em z) (ep z))

@@ -20,9 +20,10 @@ pub record CanOpenYear (l : Listing) : Type 0 where
   pub going : l.more ≡ true
   pub room : most_text ≤ l.text.room
 
--- The text is added, and the board is as it was.
+-- The text is added; the board and the list for a report are as they were.
 pub record YearOpened (book : List ℕ) (y : ℕ) (l l' : Listing) : Type 0 where
   pub added : List ℕ
   pub put : Put most_text added l.text l'.text
   pub equation : record { text = added; standing = standing l'; more = l'.more } ≡ year_opening (year_refusal l.file.now book (standing l) y) (standing l)
+  pub report : l'.report.now ≡ l.report.now
   pub kept : Kept l l'

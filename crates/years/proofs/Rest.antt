@@ -35,13 +35,9 @@ module _ (b : Basin) (body : List ℕ) (k : ℕ) (runoff bd rp : List ℕ) (c : 
     accepted = c.year.accepted;
     sheet = ap length e ∙ sheet-length (length runoff) (sheet_part (length runoff) body k) ∙ c.year.numbers;
     small = within-limit runoff' (ap over_limit e ∙ c.none_over);
-    size = c.year.size;
     can = c.year.can;
     room = c.room;
   }
-
-pub ran-same : {b : Basin} {r r' bd rp bd' rp' : List ℕ} {c : ℕ} → r ≡ r' → Ran b r bd rp bd' rp' c → Ran b r' bd rp bd' rp' c
-ran-same {b} {r} {r'} {bd} {rp} {bd'} {rp'} {c} e h = subst (λ (x : List ℕ). Ran b x bd rp bd' rp' c) e h
 
 pub after-size : (b : Basin) (r bd : List ℕ) → length (board_after b r bd) ≡ board_length
 unfolding board_after
@@ -88,7 +84,6 @@ pub record Going (b : Basin) (n : ℕ) (body : List ℕ) (first told : ℕ) (bd�
   pub place : at ≡ (k - first) * told
   pub numbers : length runoff ≡ n
   pub long : length old ≡ length old₀
-  pub size : length bd ≡ board_length
   pub can : possible b bd ≡ true
   pub none_over : first_over (drop k (sheets_in n body)) ≡ None
   pub board-left : boards_after b (drop k (sheets_in n body)) bd ≡ boards_after b (drop first (sheets_in n body)) bd₀
@@ -111,7 +106,6 @@ module _ (b : Basin) (body : List ℕ) (first told : ℕ) (runoff₀ bd₀ old�
     place = let e : first - first ≡ 0 = omega arith in sym (ap (λ (x : ℕ). x * told) e ∙ zero-mul told);
     numbers = refl;
     long = refl;
-    size = c.year.size;
     can = c.year.can;
     none_over = c.none_over;
     board-left = refl;
@@ -124,7 +118,7 @@ module _ (b : Basin) (body : List ℕ) (first told : ℕ) (runoff₀ bd₀ old�
 
     pub can-month : (w : ℕ) → w ≡ told → CanMonth b body k runoff bd (take w (drop at old))
     can-month w ew = record {
-      year = record { accepted = c.year.accepted; numbers = g.numbers ∙ c.year.numbers; bytes = omega (arith, g.numbers, c.year.bytes); size = g.size; can = g.can };
+      year = record { accepted = c.year.accepted; numbers = g.numbers ∙ c.year.numbers; bytes = omega (arith, g.numbers, c.year.bytes); can = g.can };
       month = h;
       none_over = ap (λ (x : ℕ). over_limit (sheet_at x body k)) g.numbers ∙ (none_from n body k h g.none_over).0;
       room = omega (arith, length-take-le w (drop at old) (omega (arith, ew, fits, length-drop at old)), ew, c.report);
@@ -165,7 +159,6 @@ module _ (b : Basin) (body : List ℕ) (first told : ℕ) (runoff₀ bd₀ old�
         place = let e : k + 1 - first ≡ suc (k - first) = omega (arith, g.from) in omega (arith, g.place, suc-mul (k - first) told, ap (λ (x : ℕ). x * told) e);
         numbers = er ∙ g.numbers;
         long = back_long at told w old part ew fits whole ∙ g.long;
-        size = ap length ran.board ∙ after-size b r bd;
         can = ap (possible b) ran.board ∙ after-possible b c.year.accepted bd g.can r;
         none_over = (none_from n body k h g.none_over).1;
         board-left = left_here ∙ g.board-left;

@@ -1,7 +1,8 @@
 -- From the months of a body to the whole run: what is turned down, and what is left. Assumes nothing.
 use Rattle.std.specs.Prelude.{Option, None, Some, Ok}
 use mathlib.Core.Path.{◌≡◌, refl, sym, ap, ◌∙◌, subst}
-use mathlib.Core.Bool.{Bool, true}
+use mathlib.Core.Bool.{Bool, true, false}
+use mathlib.Core.Logic.{◌≢◌}
 use mathlib.Core.List.{List}
 use Prim.Native.Nat.{ℕ, ◌-◌, ◌*◌, ◌≤◌, ◌<◌}
 use native.Mathlib.Nat.{mul-le-mul}
@@ -9,12 +10,13 @@ use native.Mathlib.Omega.{arith}
 use lib.Dec.{leb, eqb}
 use lib.ListN.{length, drop, length-drop}
 use Rattle.general.specs.Tests.{◌and◌}
-use Rattle.general.proofs.Tests.{both_of, eq_of, le_of}
+use Rattle.general.proofs.Loops.{and_no}
+use Rattle.general.proofs.Tests.{both_of, eq_of, le_of, eqb_same, eqb-other}
 use Rattle.places.specs.Board.{board_length, month_at}
 use Rattle.places.specs.Report.{report_end}
 use Rattle.rules.specs.Accepted.{Accepted}
 use Rattle.rules.specs.declared.Refusal.{Refusal}
-use Rattle.rules.specs.Answers.{Answer, told as refused_with, or_else}
+use Rattle.rules.specs.Answers.{Verdict, Answer, told as refused_with, or_else}
 use Rattle.rules.specs.Basin.{Basin, rows}
 use Rattle.rules.specs.Tally.{report_length}
 use Rattle.rules.specs.Years.{room_for_year, run_answer}
@@ -25,12 +27,13 @@ use Rattle.records.specs.Bodies.{basin_in, BodiesOf}
 use Rattle.records.proofs.Decoded.{file-rows, basin-same, reservoirs-are, rights-are}
 use Rattle.records.proofs.Rows.{rows_are}
 use Rattle.filecheck.proofs.Accepted.{accepted-in}
-use Rattle.boards.specs.Board.{possible}
-use Rattle.boards.specs.Bodies.{Counted}
-use Rattle.boards.proofs.Bodies.{counted}
+use Rattle.filecheck.specs.Check.{check_of}
+use Rattle.boards.specs.Board.{possible, judged}
+use Rattle.boards.proofs.Bodies.{possible-told}
 use Rattle.boards.proofs.Bounds.{month-most}
-use Rattle.answers.specs.Answers.{lent_refusal, count_answer}
+use Rattle.answers.specs.Answers.{refusal_of, lent_refusal, count_answer}
 use Rattle.answers.proofs.Answers.{Clear, lent_none}
+use Rattle.answers.proofs.Judged.{lent-judged}
 use Rattle.month.specs.Month.{Outcome, outcome_of}
 use Rattle.book.specs.Book.{body_size, lookup_refusal, year_part}
 use Rattle.years.specs.Years.{sheets_in, year_sheets, sheets_left, Made, calls_made, year_made, run_fits, run_refusal, run_settled, year_of, YearMeets}
@@ -77,7 +80,7 @@ module _ (b : Basin) (body : List ℕ) (told : ℕ) (runoff bd old : List ℕ) (
     module _ (none_over : None ≡ first_over from) where
       pub can-rest : (runoff' : List ℕ) → length runoff' ≡ length runoff → CanRest b body m told runoff' bd old
       can-rest runoff' er = record {
-        year = record { accepted = c.year.accepted; numbers = er ∙ c.year.numbers; bytes = omega (arith, er, c.year.bytes); size = c.year.size; can = c.year.can };
+        year = record { accepted = c.year.accepted; numbers = er ∙ c.year.numbers; bytes = omega (arith, er, c.year.bytes); can = c.year.can };
         month = omega (arith, em, month-in);
         none_over = ap (λ (x : ℕ). first_over (drop m (sheets_in x body))) er ∙ sym none_over;
         report = c.report;
@@ -93,18 +96,24 @@ module _ (b : Basin) (body : List ℕ) (told : ℕ) (runoff bd old : List ℕ) (
 
 -- ---- the lists, by the bodies
 
-pub run-fits-bodies : (w : Bodies) (board reports : List ℕ)
-    → (eqb (length board) board_length and leb (12 * report_end (right_count w.rights.now) (rows_of w.stations.now) (reservoir_count w.reservoirs.now)) (length reports)) ≡ run_fits (basin_in w) board reports
-unfolding bodies run_fits room_for_year
-run-fits-bodies w board reports = rw (reservoirs-are w.reservoirs.now, rows_are w.stations.now, rights-are w.rights.now)
+pub room-bodies : (w : Bodies) (n : ℕ) → leb (12 * report_end (right_count w.rights.now) (rows_of w.stations.now) (reservoir_count w.reservoirs.now)) n ≡ room_for_year (basin_in w) n
+unfolding bodies room_for_year
+room-bodies w n = rw (reservoirs-are w.reservoirs.now, rows_are w.stations.now, rights-are w.rights.now)
 
 told-bodies : (w : Bodies) → report_end (right_count w.rights.now) (rows_of w.stations.now) (reservoir_count w.reservoirs.now) ≡ report_length (basin_in w)
 unfolding bodies
 told-bodies w = rw (reservoirs-are w.reservoirs.now, rows_are w.stations.now, rights-are w.rights.now)
 
--- by the bodies of a file, and by the file
-pub run-fits-told : (f : List ℕ) (w : Bodies) (board reports : List ℕ) {r : Bool} → BodiesOf f w → r ≡ run_fits (basin_in w) board reports → r ≡ run_fits (basin_of f) board reports
-run-fits-told f w board reports o h = h ∙ ap (λ (b : Basin). run_fits b board reports) (basin-same f w o)
+-- beside a board that has its length, by the bodies of a file and by the file
+pub run-fits-told : (f : List ℕ) (w : Bodies) (board reports : List ℕ) {r : Bool} → BodiesOf f w → length board ≡ board_length → r ≡ room_for_year (basin_in w) (length reports) → r ≡ run_fits (basin_of f) board reports
+unfolding run_fits ◌and◌
+run-fits-told f w board reports o long h = h ∙ ap (λ (b : Basin). room_for_year b (length reports)) (basin-same f w o)
+    ∙ sym (ap (λ (k : ℕ). eqb k board_length and room_for_year (basin_of f) (length reports)) long ∙ ap (λ (t : Bool). t and room_for_year (basin_of f) (length reports)) (eqb_same board_length))
+
+-- a board of another length
+pub board-unfit : (b : Basin) (board reports : List ℕ) → length board ≢ board_length → run_fits b board reports ≡ false
+unfolding run_fits
+board-unfit b board reports n = and_no (room_for_year b (length reports)) (eqb-other (length board) board_length n)
 
 pub run-fits-parts : (b : Basin) (board reports : List ℕ) → run_fits b board reports ≡ true → (length board ≡ board_length) × (12 * report_length b ≤ length reports)
 unfolding run_fits room_for_year
@@ -128,6 +137,13 @@ module _ (f body bd old : List ℕ) where
   pub body-unfit : (r : Refusal) → Some (refused_with r) ≡ lent_refusal f fits bd → BodyMeets f sheets bd old (outcome_of (refused_with r) bd old)
   unfolding body_refusal or_else
   body-unfit r e = over-is (body_refusal f sheets bd old) (length left) (calls_made f left bd old) bd old r (rw (← e))
+
+  -- what is turned down beside an accepted file and a board that has its length
+  pub lent-told : (w : Bodies) → BodiesOf f w → check_of f ≡ Ok tt → length bd ≡ board_length → {told : ℕ} {v : Verdict} {board : List ℕ} → board ≡ bd → told ≡ report_end (right_count w.rights.now) (rows_of w.stations.now) (reservoir_count w.reservoirs.now)
+      → v ≡ judged (leb (12 * told) (length old)) (possible (basin_in w) board) → refusal_of v ≡ lent_refusal f fits bd
+  lent-told w h acc long eb et ev =
+      let t = run-fits-told f w bd old h long (ap (λ (x : ℕ). leb (12 * x) (length old)) et ∙ room-bodies w (length old)) in
+      lent-judged f fits bd acc (ev ∙ (λ z. judged (t z) (possible-told f w bd h (ap (possible (basin_in w)) eb) z)))
 
   module _ (k : Clear f fits bd) where
     parts : (length bd ≡ board_length) × (12 * report_length basin ≤ length old)
@@ -167,28 +183,21 @@ module _ (f body bd old : List ℕ) where
       accepted : Accepted (basin_in w)
       accepted = accepted-in f w h k.file-ok
 
-      pub counted-here : Counted w
-      counted-here = counted w accepted
-
       rows_same : rows_of w.stations.now ≡ rows basin
       rows_same = file-rows f h.stations
 
-      pub can-through : {told n l v : ℕ} (runoff : List ℕ) → n ≡ rows_of w.stations.now → l ≡ right_count w.rights.now → v ≡ reservoir_count w.reservoirs.now
-          → told ≡ report_end l n v → length runoff ≡ n → length body ≡ body_size (rows basin) → CanThrough (basin_in w) body told runoff bd old
-      can-through {told} {n} {l} {v} runoff en el ev et er eb = record {
+      pub can-through : {told n : ℕ} (runoff : List ℕ) → n ≡ rows_of w.stations.now → told ≡ report_end (right_count w.rights.now) (rows_of w.stations.now) (reservoir_count w.reservoirs.now)
+          → length runoff ≡ n → length body ≡ body_size (rows basin) → CanThrough (basin_in w) body told runoff bd old
+      can-through {told} {n} runoff en et er eb = record {
         year = record {
           accepted = accepted;
           numbers = er ∙ en ∙ rows_same ∙ sym (ap rows same);
           bytes = omega (arith, eb, er, en, rows_same);
-          size = parts.0;
           can = ap (λ (x : Basin). possible x bd) same ∙ k.board-ok;
         };
-        report = report;
-        room = omega (arith, parts.1, report, ap report_length same);
+        report = et ∙ told-bodies w;
+        room = omega (arith, parts.1, et, told-bodies w, ap report_length same);
       }
-        where
-          report : told ≡ report_length (basin_in w)
-          report = et ∙ (λ z. report_end (el z) (en z) (ev z)) ∙ told-bodies w
 
       pub body-went : {x n : ℕ} {o : Outcome} → n ≡ rows_of w.stations.now → WentThrough (basin_in w) (drop (month_at bd) (sheets_in x body)) bd old o → x ≡ n → BodyMeets f sheets bd old o
       body-went {x} {n} {o} en r ex =
@@ -219,10 +228,10 @@ module _ (f k : List ℕ) (y : ℕ) (bd old : List ℕ) where
   unfolding run_refusal or_else
   judged-missing r e = rw (← e)
 
-  module _ (j : CanJudge f bd) (room : room_for_year (basin_of f) (length old) ≡ true) where
+  module _ (j : CanJudge f bd) (size : length bd ≡ board_length) (room : room_for_year (basin_of f) (length old) ≡ true) where
     judge-clear : Clear f (run_fits (basin_of f) bd old) bd
     unfolding run_fits ◌and◌
-    judge-clear = record { file-ok = j.accepted; lists-ok = rw (j.size, room); board-ok = j.can }
+    judge-clear = record { file-ok = j.accepted; lists-ok = rw (size, room); board-ok = j.can }
 
     pub judged-found : {n m : ℕ} {x : Option Answer} (body : List ℕ) → body ≡ year_part f k y → lookup_refusal f k y ≡ None → n ≡ rows (basin_of f) → m ≡ month_at bd
         → x ≡ first_over (drop m (sheets_in n body)) → x ≡ run_refusal f k y bd old

@@ -2,20 +2,19 @@
 use Rattle.std.specs.Prelude.{Option, None, Some}
 use mathlib.Core.Path.{◌≡◌, sym, ap, ◌∙◌}
 use mathlib.Core.List.{List, [], ◌∷◌}
-use Prim.Native.Nat.{ℕ, zero, suc, ◌+◌, ◌-◌, ◌*◌, ◌≤◌, ◌<◌}
+use Prim.Native.Nat.{ℕ, zero, suc, ◌+◌, ◌≤◌, ◌<◌}
 use native.Mathlib.Numerals.{add-one}
 use native.Mathlib.Omega.{arith}
-use lib.ListN.{length, get_or, take, drop, drop_of_length-le}
+use lib.ListN.{length, get_or, drop, drop_of_length-le}
 use lib.Seq.{drop-cons}
 use Rattle.general.specs.Tables.{All}
 use Rattle.general.proofs.Entries.{all-tab}
-use Rattle.general.proofs.Loops.{step-within}
 use Rattle.general.proofs.Tables.{tab-length, tab-at}
 use Rattle.rules.specs.declared.Refusal.{Refusal}
 use Rattle.rules.specs.Answers.{Answer, told, or_else}
 use Rattle.rules.specs.Tally.{over_limit, over_answer}
 use Rattle.rules.proofs.Answers.{or-first, or-second}
-use Rattle.sheets.specs.Sheets.{sheet_size, sheet_of, sheet_part, sheet_at}
+use Rattle.sheets.specs.Sheets.{sheet_part, sheet_at}
 use Rattle.sheets.proofs.Sheets.{sheet-length}
 use Rattle.month.proofs.Settling.{over-none}
 use Rattle.book.specs.Book.{body_size}
@@ -23,20 +22,10 @@ use Rattle.years.specs.Years.{sheets_in}
 use Rattle.years.specs.Runs.{first_over, CanRead}
 
 -- twelve sheets lie in a body
-pub sheet-within : (n k : ℕ) → n ≤ 64 → k < 12 → (sheet_size n * k + sheet_size n ≤ 12 * sheet_size n) × (sheet_size n * k ≤ 3072)
-sheet-within n k h l =
-    let s : sheet_size n * k + sheet_size n ≤ sheet_size n * 12 = step-within (sheet_size n) 12 k l in
-    (omega arith, omega arith)
-
 pub read_by : {body runoff : List ℕ} (n : ℕ) → length runoff ≡ n → n ≤ 64 → length body ≡ body_size n → CanRead body runoff
 read_by n e h b = record { few = omega (arith, e, h); bytes = omega (arith, e, b) }
 
 -- the bytes from a place to a sheet's end are the sheet's
-pub sheet-part : (n : ℕ) (body : List ℕ) (k : ℕ) → sheet_of n (take (sheet_size n * k + sheet_size n - sheet_size n * k) (drop (sheet_size n * k) body)) ≡ sheet_at n body k
-sheet-part n body k =
-    let e : sheet_size n * k + sheet_size n - sheet_size n * k ≡ sheet_size n = omega arith in
-    ap (λ (x : ℕ). sheet_of n (take x (drop (sheet_size n * k) body))) e
-
 all_drop : {A : Type 0} (P : A → Type 0) (k : ℕ) (l : List A) → All P l → All P (drop k l)
 all_drop P zero l h = h
 all_drop P (suc k) [] h = tt

@@ -1,6 +1,6 @@
 -- The steps of a year run on a basin: what each asks for, and what it leaves.
 use Rattle.std.specs.Prelude.{◌≡◌, true, List, [], ◌∷◌, ◌++◌, ℕ, ◌-◌, ◌*◌, ◌≤◌, ◌<◌, length, take, drop, Option, None, Ok}
-use Rattle.places.specs.Board.{board_length, month_at}
+use Rattle.places.specs.Board.{month_at}
 use Rattle.rules.specs.Accepted.{Accepted}
 use Rattle.rules.specs.Answers.{Answer, or_else}
 use Rattle.rules.specs.Basin.{Basin, rows}
@@ -43,7 +43,6 @@ pub record CanRead (body runoff : List ℕ) : Type 0 where
 -- an accepted file and a possible board
 pub record CanJudge (f bd : List ℕ) : Type 0 where
   pub accepted : check_of f ≡ Ok tt
-  pub size : length bd ≡ board_length
   pub can : possible (basin_of f) bd ≡ true
 
 -- an accepted basin, a body of the book and a possible board
@@ -51,7 +50,6 @@ pub record CanYear (b : Basin) (body runoff bd : List ℕ) : Type 0 where
   pub accepted : Accepted b
   pub numbers : length runoff ≡ rows b
   pub bytes : length body ≡ 12 * sheet_size (length runoff)
-  pub size : length bd ≡ board_length
   pub can : possible b bd ≡ true
 
 -- month k: its sheet is not over its limit

@@ -1,4 +1,5 @@
-// The sheets of a year's body, and the look for runoff over its limit. The list runoff has a number to a station.
+// The sheets of a year's body, and the look for runoff over its limit. The list runoff has a number to a station, and is lent
+// for each sheet anew.
 ghost use Rattle.std.specs.Prelude.{◌≡◌, ◌≤◌, ◌<◌, length, drop};
 ghost use Rattle.rules.specs.Tally.{over_limit, over_answer};
 ghost use Rattle.answers.specs.Answers.{refusal_of};
@@ -33,7 +34,8 @@ fn judge_sheet(body: &[u8], k: usize, runoff: &mut [u32]) -> Result<(), Refusal>
     judge_runoff(runoff)
 }
 
-// That of the first sheet that has one, from month `first` on.
+// That of the first sheet that has one, from month `first` on. The sheets go by number, as the run reads them after: parts of the body
+// (`chunks_exact`) would have to have a length, and a list of no station is not ruled out here.
 pub fn judge_sheets(body: &[u8], first: usize, runoff: &mut [u32]) -> Result<(), Refusal>
     requires { CanRead body.now runoff.old × (first ≤ 12) }
     ensures { refusal_of result ≡ first_over (drop first (sheets_in (length runoff.old) body.now)) }

@@ -1,27 +1,24 @@
 // The run of a year: all that is turned down is turned down before the first store.
-ghost use Rattle.std.specs.Prelude.{◌≡◌, true, List, ℕ, length, drop};
+ghost use Rattle.std.specs.Prelude.{◌≡◌, true, List, ℕ, length, drop, IfOk};
 ghost use Rattle.places.specs.Board.{month_at};
 ghost use Rattle.rules.specs.Basin.{rows};
 ghost use Rattle.rules.specs.Years.{room_for_year};
 ghost use Rattle.records.specs.Records.{basin_of};
-ghost use Rattle.records.specs.Bodies.{basin_in, BodiesOf};
+ghost use Rattle.records.specs.Bodies.{basin_in};
 ghost use Rattle.filecheck.specs.Check.{check_of};
 ghost use Rattle.sheets.specs.Sheets.{sheet_at};
-ghost use Rattle.boards.specs.Bodies.{Counted};
-ghost use Rattle.book.specs.Book.{body_size};
-ghost use Rattle.answers.specs.Answers.{refusal_of, lent_refusal, count_answer};
+ghost use Rattle.book.specs.Book.{body_size, year_part};
+ghost use Rattle.answers.specs.Answers.{refusal_of, count_answer};
 ghost use Rattle.month.specs.Month.{outcome_of};
 ghost use Rattle.month.specs.Run.{Ran};
-ghost use Rattle.years.specs.Years.{sheets_in, run_fits, run_refusal, YearMeets};
+ghost use Rattle.years.specs.Years.{sheets_in, run_refusal, YearMeets};
 ghost use Rattle.years.specs.Runs.{CanJudge, CanMonth, CanRest, RestRan, CanThrough, WentThrough, BodyMeets};
 
 use crate::judging::{MONTHS, judge_sheets, read_sheet};
-use boards::possible::is_possible;
+use boards::possible::judge;
 use book::find::{find_year, station_count};
-use closing::in_year;
 use month::run::run;
 use places::board::{BOARD_LENGTH, MONTH};
-use places::report::report_end;
 use records::bodies::Bodies;
 use rules::Refusal;
 
@@ -31,7 +28,7 @@ fn run_month(
     body: &[u8],
     k: usize,
     runoff: &mut [u32],
-    board: &mut [u64],
+    board: &mut [u64; BOARD_LENGTH],
     report: &mut [u64],
 ) -> usize
     requires { CanMonth (basin_in bodies.now) body.now k runoff.old board.old report.old }
@@ -42,14 +39,15 @@ fn run_month(
 }
 
 // The months from `first` on, each report on its own part of the list. `told` is a report's length. A loop and no call of itself, so that a
-// year needs little more stack than a month.
+// year needs little more stack than a month; and the parts by their places, since of parts that `chunks_exact_mut` lends to a loop the proof
+// is not told what they were left as (`opening::board::clear_last`).
 fn run_rest(
     bodies: &Bodies<'_>,
     body: &[u8],
     first: usize,
     told: usize,
     runoff: &mut [u32],
-    board: &mut [u64],
+    board: &mut [u64; BOARD_LENGTH],
     reports: &mut [u64],
 )
     requires { CanRest (basin_in bodies.now) body.now first told runoff.old board.old reports.old }
@@ -70,48 +68,16 @@ fn run_through(
     body: &[u8],
     told: usize,
     runoff: &mut [u32],
-    board: &mut [u64],
+    board: &mut [u64; BOARD_LENGTH],
     reports: &mut [u64],
 ) -> Result<usize, Refusal>
     requires { CanThrough (basin_in bodies.now) body.now told runoff.old board.old reports.old }
     ensures { WentThrough (basin_in bodies.now) (drop (month_at board.old) (sheets_in (length runoff.old) body.now)) board.old reports.old (outcome_of (count_answer result) board.new reports.new) }
 {
-    let m = in_year(board[MONTH]);
+    let m = board[MONTH] as usize;
     judge_sheets(body, m, runoff)?;
     run_rest(bodies, body, m, told, runoff, board, reports);
     Ok(MONTHS - m)
-}
-
-// Whether board and list have the lengths that the basin asks for: a board's places, and room for twelve reports.
-fn run_fits(bodies: &Bodies<'_>, board: &[u64], reports: &[u64]) -> bool
-    requires { Counted bodies.now }
-    ensures { result ≡ run_fits (basin_in bodies.now) board.now reports.now }
-{
-    let told = report_end(
-        bodies.right_count(),
-        bodies.rows(),
-        bodies.reservoir_count(),
-    );
-    (board.len() == BOARD_LENGTH) & (MONTHS * told <= reports.len())
-}
-
-// What is lent beside an accepted file: the lengths of board and list, then whether the board is possible.
-fn judge_lists(
-    file: &[u8],
-    bodies: &Bodies<'_>,
-    board: &[u64],
-    reports: &[u64],
-) -> Result<(), Refusal>
-    requires { (check_of file.now ≡ Ok tt) × BodiesOf file.now bodies.now }
-    ensures { refusal_of result ≡ lent_refusal file.now (run_fits (basin_of file.now) board.now reports.now) board.now }
-{
-    if !run_fits(bodies, board, reports) {
-        return Err(Refusal::Lists);
-    }
-    if !is_possible(bodies, board) {
-        return Err(Refusal::Board);
-    }
-    Ok(())
 }
 
 // A body of the book that fits an accepted file. The file is not checked again.
@@ -124,23 +90,35 @@ fn run_body(
     requires { (check_of file.now ≡ Ok tt) × (length body.now ≡ body_size (rows (basin_of file.now))) }
     ensures { BodyMeets file.now (sheets_in (rows (basin_of file.now)) body.now) board.old reports.old (outcome_of (count_answer result) board.new reports.new) }
 {
+    let Some(board) = board.as_mut_array::<BOARD_LENGTH>() else {
+        return Err(Refusal::Lists);
+    };
     let bodies = Bodies::of(file);
-    judge_lists(file, &bodies, board, reports)?;
-    let n = bodies.rows();
-    let told = report_end(bodies.right_count(), n, bodies.reservoir_count());
+    let told = bodies.shape().report_end();
+    judge(MONTHS * told <= reports.len(), &bodies, board)?;
+    // Room for the longest sheet, without a heap.
     let mut runoff = [0u32; 64];
+    let n = bodies.rows();
     run_through(&bodies, body, told, &mut runoff[..n], board, reports)
 }
 
-// What a run of the year from this board would be refused with, whatever the list that it is lent, if only that is long enough. Nothing is run.
-pub fn judge_year(file: &[u8], book: &[u8], year: u32, board: &[u64]) -> Result<(), Refusal>
+// What a run of the year from this board would be refused with, whatever the list that it is lent, if only that is long enough. Nothing is run:
+// of a year that would not be refused the body is answered.
+pub fn judge_year<'a>(
+    file: &[u8],
+    book: &'a [u8],
+    year: u32,
+    board: &[u64; BOARD_LENGTH],
+) -> Result<&'a [u8], Refusal>
     requires { CanJudge file.now board.now }
-    ensures { (reports : List ℕ) → room_for_year (basin_of file.now) (length reports) ≡ true → refusal_of result ≡ run_refusal file.now book.now year board.now reports }
+    ensures refused { (reports : List ℕ) → room_for_year (basin_of file.now) (length reports) ≡ true → refusal_of result ≡ run_refusal file.now book.now year board.now reports }
+    ensures part { IfOk result (λ body. body.now ≡ year_part file.now book.now year) }
 {
     let body = find_year(file, book, year)?;
     let n = station_count(file);
     let mut runoff = [0u32; 64];
-    judge_sheets(body, in_year(board[MONTH]), &mut runoff[..n])
+    judge_sheets(body, board[MONTH] as usize, &mut runoff[..n])?;
+    Ok(body)
 }
 
 // A year of the book on a board, from the board's month up to September. Answers how many months were run.

@@ -9,29 +9,29 @@ use Rattle.boards.proofs.Bounds.{bounded}
 use Rattle.stock.proofs.Answers.{stock-refused, stock-clear, stock-made}
 use Rattle.stock.proofs.stock.Goals as goal
 
-pub returns-in_err-judge_board : goal.returns-in_err-judge_board
-returns-in_err-judge_board c = search (rules, stock-refused)
+pub returns-in_err-board : goal.returns-in_err-board
+returns-in_err-board c = search (rules, stock-refused)
 
 pub storage_sum-requires : goal.storage_sum-requires
 storage_sum-requires c =
     let f = c.args.file.now in
     let b = c.args.board.now in
-    let k = stock-clear f b (sym c.in_ok-judge_board.ensures) in
+    let k = stock-clear f b (sym c.in_ok-board.ensures.refused) in
     let n = (counted c.of-bodies.result (accepted-in f _ c.of-bodies.ensures k.file-ok)).reservoirs_in in
-    (omega (arith, n, c.reservoir_count.ensures), bounded (basin_of f) (accepted-facts f k.file-ok) b k.size k.board-ok)
+    (omega (arith, n, c.reservoir_count.ensures), rw c.in_ok-board.ensures.same (bounded (basin_of f) (accepted-facts f k.file-ok) b k.board-ok))
 
 pub due_sum-requires : goal.due_sum-requires
 due_sum-requires c =
     let f = c.args.file.now in
     let b = c.args.board.now in
-    let k = stock-clear f b (sym c.in_ok-judge_board.ensures) in
+    let k = stock-clear f b (sym c.in_ok-board.ensures.refused) in
     let n = (counted c.of-bodies.result (accepted-in f _ c.of-bodies.ensures k.file-ok)).rows_in in
-    (omega (arith, n, c.rows.ensures), bounded (basin_of f) (accepted-facts f k.file-ok) b k.size k.board-ok)
+    (omega (arith, n, c.rows.ensures), rw c.in_ok-board.ensures.same (bounded (basin_of f) (accepted-facts f k.file-ok) b k.board-ok))
 
 pub returns : goal.returns
 returns c =
     let f = c.args.file.now in
     let b = c.args.board.now in
-    stock-made f b _ c.in_ok-judge_board.ensures
-    (c.storage_sum.ensures ∙ storage-told f _ b c.of-bodies.ensures c.reservoir_count.ensures)
-    (c.due_sum.ensures ∙ due-told f _ b c.of-bodies.ensures c.rows.ensures)
+    stock-made f b _ c.in_ok-board.ensures.refused
+    (rw c.in_ok-board.ensures.same at c.storage_sum.ensures ∙ storage-told f _ b c.of-bodies.ensures c.reservoir_count.ensures)
+    (rw c.in_ok-board.ensures.same at c.due_sum.ensures ∙ due-told f _ b c.of-bodies.ensures c.rows.ensures)

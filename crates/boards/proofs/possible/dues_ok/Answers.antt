@@ -6,4 +6,4 @@ use Rattle.boards.proofs.possible.dues_ok.Goals as goal
 -- the rows that there are, and what stands past them
 pub returns : goal.returns
 unfolding ◌and◌
-returns c = cc (dues-parts c.args.n c.args.board.now c.requires.1, c.joined-unused.ensures 0)
+returns c = cc (dues-parts c.args.n c.args.board.now c.requires, c.joined-unused.ensures 0)

@@ -5,4 +5,4 @@ use Rattle.boards.proofs.possible.is_possible.Goals as goal
 
 pub returns : goal.returns
 unfolding ◌and◌
-returns c = let w = c.args.bodies.now in cc (possible-bodies w.stations.now w.reservoirs.now w.patterns.now w.rights.now c.args.board.now)
+returns c = let w = c.args.bodies.now in λ ps. cc (possible-bodies w.stations.now w.reservoirs.now ps w.rights.now c.args.board.now)

@@ -12,4 +12,4 @@ unfolding ◌and◌
 returns c =
     let a = c.args in
     let past : dues_from - c.taken_place.result ≡ 256 - right_count a.rights.now = omega arith in
-    cc (taken-parts a.rights.now a.board.now c.requires.1, c.joined-unused.ensures 0, past)
+    cc (taken-parts a.rights.now a.board.now c.requires, c.joined-unused.ensures 0, past)

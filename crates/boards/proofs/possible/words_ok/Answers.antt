@@ -13,4 +13,4 @@ returns c =
     let end = c.word_place-end.result in
     let used : end - words_from ≡ a.n = omega arith in
     let past : board_length - end ≡ 256 - a.n = omega arith in
-    cc (words-parts a.n a.board.now c.requires.1, c.joined-used.ensures 12, c.joined-unused.ensures 0, used, past)
+    cc (words-parts a.n a.board.now c.requires, c.joined-used.ensures 12, c.joined-unused.ensures 0, used, past)

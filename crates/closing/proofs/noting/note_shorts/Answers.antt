@@ -50,6 +50,6 @@ loop-i-preserved c =
       omega arith,
       omega (arith, l.invariant.1, c.from-shorts.ensures ∙ counts (not (eqb (get_or s.report.now (q.result + 2) 0) 0)), only-le (not (eqb (get_or s.report.now (q.result + 2) 0) 0)) 1),
       reasons-more s.report.now l.i l.shorts q.result _ l.invariant.2 q.ensures (c.from-shorts.ensures ∙ counts (not (eqb (get_or s.report.now (q.result + 2) 0) 0))),
-      noted-at s.m s.report.now s.board.now l.i (omega (arith, c.requires.few)) c.requires.size l.board l.invariant.3 p.result _ p.ensures
+      noted-at s.m s.report.now s.board.now l.i (omega (arith, c.requires.few)) (omega arith) l.board l.invariant.3 p.result _ p.ensures
           (read_at s.report.now s.m l.i p.result q.result _ l.board q.ensures c.put_bit.ensures),
     )

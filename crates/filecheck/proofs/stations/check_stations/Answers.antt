@@ -13,17 +13,17 @@ pub loop-row-init : goal.loop-row-init
 unfolding stations_verdict
 loop-row-init c = (omega arith, omega arith, verdict-all _ _ _, c.requires.2 ∙ found_none _)
 
-pub returns-then-not-plain_ok : goal.returns-then-not-plain_ok
-returns-then-not-plain_ok c = let s = c.args.stations.now in let row = c.loop-row.row in record {
-  value = verdict-here Station (station_ok s) (rows_of s) row (omega arith) (plain-fails s row (sym c.plain_ok.ensures ∙ c.if-not-plain_ok.true)) ∙ c.loop-row.invariant.2;
-  table_for = λ e. cc;
-}
+pub returns-then-not-plain_ok-clause-value : goal.returns-then-not-plain_ok-clause-value
+returns-then-not-plain_ok-clause-value c =
+    let s = c.args.stations.now in
+    let row = c.loop-row.row in
+    verdict-here Station (station_ok s) (rows_of s) row (omega arith) (plain-fails s row (sym c.plain_ok.ensures ∙ c.if-not-plain_ok.true)) ∙ c.loop-row.invariant.2
 
-pub returns-in_default : goal.returns-in_default
-returns-in_default c = let s = c.args.stations.now in let row = c.loop-row.row in record {
-  value = verdict-here Station (station_ok s) (rows_of s) row (omega arith) (row-lost s row (omega arith) _ c.row_below.ensures c.in_default.is) ∙ c.loop-row.invariant.2;
-  table_for = λ e. cc;
-}
+pub returns-in_default-clause-value : goal.returns-in_default-clause-value
+returns-in_default-clause-value c =
+    let s = c.args.stations.now in
+    let row = c.loop-row.row in
+    verdict-here Station (station_ok s) (rows_of s) row (omega arith) (row-lost s row (omega arith) _ c.row_below.ensures c.in_default.is) ∙ c.loop-row.invariant.2
 
 pub overflow_cast-below : goal.overflow_cast-below
 overflow_cast-below c = let h = found-small c.args.stations.now c.loop-row.row c.in-Some.next _ c.row_below.ensures c.in-Some.is c.requires.1 in omega arith

@@ -1,25 +1,25 @@
 -- `grants::grants::river_part` meets its contract. Assumes nothing.
-use mathlib.Core.Path.{sym, ◌∙◌}
-use native.Mathlib.Omega.{arith}
-use Rattle.grants.proofs.Looks.{own_in, called-in, low-in, low_on}
+use Rattle.std.proofs.Common.{rules}
+use Rattle.grants.proofs.Looks.{own_in, low_on, gave_own, gave_called, gave_low}
 use Rattle.grants.proofs.grants.river_part.Goals as goal
 
-pub station_number-requires : goal.station_number-requires
-station_number-requires c =
-    own_in c.args.stations.now c.args.below.now c.args.row c.requires
+pub station_at-requires : goal.station_at-requires
+station_at-requires c = own_in c.requires c.from-row.ensures
 
-pub station_number-requires-in-Called : goal.station_number-requires-in-Called
-station_number-requires-in-Called c =
-    called-in c.args.stations.now c.args.below.now c.args.river.now.available c.args.short.now c.args.row c.requires c.in-Called.q (sym c.look-seen.ensures ∙ c.in-Called.is)
+pub returns-in-Instream : goal.returns-in-Instream
+returns-in-Instream c =
+    let s = c.args in
+    gave_own s.river.now.available s.short.now s.right.kind s.demand c.requires c.from-row.ensures c.in-Instream.is c.min.ensures c.station_at.ensures
 
-pub offset_bounds-river-q : goal.offset_bounds-river-q
-offset_bounds-river-q c =
-    omega (arith, low_on c.args.stations.now c.args.below.now c.args.river.now.available c.args.short.now c.args.row c.requires c.in-Low.q (sym c.look-seen.ensures ∙ c.in-Low.is))
+pub returns-in-Called : goal.returns-in-Called
+returns-in-Called c =
+    let s = c.args in
+    gave_called s.river.now.available s.short.now s.right.kind s.demand c.requires c.from-row.ensures c.in-Called.q (search rules) c.look-seen.ensures c.station_at-in-Called.ensures c.in-Called.is
 
 pub bounds-river-q : goal.bounds-river-q
-bounds-river-q c =
-    omega (arith, low_on c.args.stations.now c.args.below.now c.args.river.now.available c.args.short.now c.args.row c.requires c.in-Low.q (sym c.look-seen.ensures ∙ c.in-Low.is))
+bounds-river-q c = low_on c.requires c.from-row.ensures c.args.river.now.available c.args.short.now c.in-Low.q c.look-seen.ensures c.in-Low.is
 
-pub station_number-requires-in-Low : goal.station_number-requires-in-Low
-station_number-requires-in-Low c =
-    low-in c.args.stations.now c.args.below.now c.args.river.now.available c.args.short.now c.args.row c.requires c.in-Low.q (sym c.look-seen.ensures ∙ c.in-Low.is)
+pub returns-in-Low : goal.returns-in-Low
+returns-in-Low c =
+    let s = c.args in
+    gave_low s.river.now.available s.short.now s.right.kind s.demand c.requires c.from-row.ensures c.in-Low.q (search rules) c.look-seen.ensures c.station_at-in-Low.ensures c.in-Low.is c.min-in-Low.ensures

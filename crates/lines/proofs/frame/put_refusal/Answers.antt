@@ -1,5 +1,4 @@
 -- `lines::frame::put_refusal` meets its contract: the word and two numbers. Assumes nothing.
-use mathlib.Core.Path.{subst}
 use mathlib.Core.List.{[], ◌∷◌, ◌++◌}
 use Rattle.rules.specs.Answers.{Answer}
 use Rattle.listing.specs.Listing.{space, decimal_text, line_of, refused_word, refusal_line}
@@ -14,6 +13,4 @@ unfolding refusal_line
 lined a p q = word-then refused_word space p q
 
 pub returns : goal.returns
-returns c =
-    let n = c.from-number.result in
-    subst (λ (a : Answer). Put 50 (refusal_line a) c.args.text.now c.line.new.self) c.from-number.ensures (lined (record { number = n.number; place = n.place }) c.push.ensures c.line.ensures)
+returns c = lined (record { number = c.args.answer.number; place = c.args.answer.place }) c.push.ensures c.line.ensures

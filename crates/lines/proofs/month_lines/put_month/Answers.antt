@@ -6,13 +6,15 @@ use Rattle.lines.proofs.month_lines.put_month.Goals as goal
 
 pub evaporation_sum-evaporation-requires : goal.evaporation_sum-evaporation-requires
 evaporation_sum-evaporation-requires c =
-    rw (c.rows_end-first.ensures, c.right_count-lines.ensures, c.rows-rows.ensures, c.reservoir_count-n.ensures)
+    let e = c.shape-shape.ensures in
+    rw (c.rows_end.ensures, c.deep_place.ensures, e.0, e.1, e.2)
     (few-lost c.args.report.now _ _ (omega (arith, c.requires.told)) c.requires.few_reservoirs c.requires.small)
 
 pub returns : goal.returns
 returns c =
     let s = c.args in
-    month-put s.bodies.now s.report.now s.board.now s.month _ _ _ c.put_rights.ensures
-    (c.evaporation_sum-evaporation.ensures ∙ rw (c.rows_end-first.ensures, c.right_count-lines.ensures, c.rows-rows.ensures, c.reservoir_count-n.ensures) (lost-at s.report.now _ _ (omega (arith, c.requires.told))))
-    (rw c.reservoir_count-n.ensures at c.storage_sum-storage.ensures) (rw c.rows-rows.ensures at c.due_sum-pending.ensures)
-    (rw (c.flow_place.ensures, c.right_count-lines.ensures, c.rows-rows.ensures) at c.put_end.ensures)
+    let e = c.shape-shape.ensures in
+    λ ps. month-put s.bodies.now ps s.report.now s.board.now s.month _ _ _ c.put_rights.ensures
+    (c.evaporation_sum-evaporation.ensures ∙ rw (c.rows_end.ensures, c.deep_place.ensures, e.0, e.1, e.2) (lost-at s.report.now _ _ (omega (arith, c.requires.told))))
+    (rw e.2 at c.storage_sum-storage.ensures) (rw e.1 at c.due_sum-pending.ensures)
+    (rw (c.flow_place.ensures, e.0, e.1) at c.put_end.ensures)

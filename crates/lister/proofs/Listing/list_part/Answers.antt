@@ -11,7 +11,7 @@ returns-then-left-eq0 c = part-ended c.args.part.now c.args.self.now c.requires 
 
 pub returns-then-left-n : goal.returns-then-left-n
 returns-then-left-n c =
-    part-short c.args.part.now c.args.self.now c.requires _ (c.rows-n.ensures ∙ file-rows c.args.self.now.file.now c.of.ensures.stations) (λ z. omega (arith, z, c.if-left-eq0.false)) c.if-left-n.true _ c.refuse.ensures
+    part-short c.args.part.now c.args.self.now c.requires _ (c.rows-n.ensures ∙ file-rows c.args.self.now.file.now c.of.ensures.stations) (λ z. omega (arith, z, c.if-left-eq0.false)) c.if-left-n.true _ (rw c.from.ensures at c.refuse.ensures)
 
 pub slice_bounds-runoff-end : goal.slice_bounds-runoff-end
 slice_bounds-runoff-end c = omega (arith, few_rows c.args.part.now c.args.self.now c.requires, c.rows-n.ensures ∙ file-rows c.args.self.now.file.now c.of.ensures.stations)

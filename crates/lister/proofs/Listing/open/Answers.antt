@@ -1,5 +1,8 @@
 -- `lister::Listing::open` meets its contract. Assumes nothing.
-use mathlib.Core.Path.{refl}
+use mathlib.Core.Path.{◌≡◌, refl, sym}
+use borrow.Author.Rules.{rules}
+use lib.ListN.{length}
+use Rattle.places.specs.Board.{board_length}
 use Rattle.rules.specs.Answers.{told}
 use Rattle.answers.specs.Answers.{accepted}
 use Rattle.answers.proofs.Numbered.{numbered}
@@ -10,7 +13,8 @@ use Rattle.lister.proofs.Listing.open.Goals as goal
 pub returns-clause-opened : goal.returns-clause-opened
 returns-clause-opened c =
     let s = c.args in
+    let fits : length s.board.now ≡ board_length = search rules in
     elim c.match-fresh.branch [
-      | in-Ok w ↦ accepted-open s.file.now s.board.now _ c.requires.0 accepted w.in-Ok.ensures c.over-text.ensures.empty c.over-text.ensures.room c.put_header.ensures _ refl refl c.fresh.auto.board s.report.now refl refl refl w.more-is w.text-is
-      | in-Err w ↦ refused-open s.file.now s.board.now _ c.requires.0 (told w.in-Err.refusal) w.in-Err.ensures c.over-text.ensures.empty c.over-text.ensures.room c.put_header.ensures _ refl refl c.fresh.auto.board s.report.now refl refl (numbered _) w.more-is (rw w.text-is w.put_refusal.ensures)
+      | in-Ok w ↦ accepted-open s.file.now s.board.now _ fits accepted w.in-Ok.ensures c.over-text.ensures.empty c.over-text.ensures.room c.put_header.ensures _ refl refl s.report.now refl refl refl w.more-is w.text-is
+      | in-Err w ↦ refused-open s.file.now s.board.now _ fits (told w.in-Err.refusal) w.in-Err.ensures c.over-text.ensures.empty c.over-text.ensures.room c.put_header.ensures _ refl refl s.report.now refl refl (numbered _) w.more-is (rw (w.text-is, sym w.from.ensures) w.put_refusal.ensures)
     ]

@@ -10,7 +10,7 @@ use Rattle.opening.proofs.OpenedBoard.{Passed, passed-from, passed_to, passed-al
 use Rattle.opening.proofs.board.clear_last.Goals as goal
 
 pub loop-w-init : goal.loop-w-init
-loop-w-init c = (search rules, passed-from _ c.args.board.now dues_from c.requires.0 (λ j h. ended-before _ c.args.n j h))
+loop-w-init c = (search rules, passed-from _ c.args.board.now dues_from (omega arith) (λ j h. ended-before _ c.args.n j h))
 
 pub loop-w-preserved : goal.loop-w-preserved
 loop-w-preserved c =

@@ -12,11 +12,11 @@ use Rattle.opening.proofs.board.clear_year.Goals as goal
 pub returns-then-not-october : goal.returns-then-not-october
 returns-then-not-october c =
     let bd = c.args.board.now in
-    subst (λ (t : Bool). bd ≡ tab board_length (cleared_at bd t)) (sym (c.if-not-october.true)) (cleared-none bd c.requires)
+    subst (λ (t : Bool). bd ≡ tab board_length (cleared_at bd t)) (sym (c.if-not-october.true)) (cleared-none bd (omega arith))
 
 pub returns : goal.returns
 returns c =
     let bd = c.args.board.now in
     cleared-october bd _ _ c.args.october (c.if-not-october.false)
-    (zeros bd _ 9 257 c.requires (omega arith) (c.fill.ensures.after (λ y e. search rules)))
+    (zeros bd _ 9 257 (omega arith) (omega arith) (c.fill.ensures.after (λ y e. search rules)))
     (zeros _ _ 970 256 (search rules) (omega arith) (c.fill-2.ensures.after (λ y e. search rules)))

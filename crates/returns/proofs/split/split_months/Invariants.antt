@@ -1,10 +1,10 @@
 -- `returns::split::split_months` meets its contract. Assumes nothing.
 use Rattle.returns.specs.Dues.{Sums, Lagged}
-use Prim.Native.Nat.{ℕ, ◌*◌, ◌/◌}
+use Prim.Native.Nat.{ℕ, ◌*◌, ◌/◌, ◌≤◌}
 use mathlib.Core.Path.{◌≡◌}
 use mathlib.Core.List.{List}
-use lib.ListN.{get_or}
+use lib.ListN.{length, get_or}
 use Rattle.returns.proofs.split.split_months.Given as goal
 
 abbrev pub invariant-loop-k : goal.invariant-loop-k
-invariant-loop-k l = (l.before ≡ l.a * get_or l.sums l.k 0 / 100) × ((pattern : List ℕ) → Sums pattern l.sums → Lagged pattern l.a l.at l.k l.initial.dues l.dues)
+invariant-loop-k l = (11 ≤ length l.dues) × (l.before ≡ l.a * get_or l.sums l.k 0 / 100) × ((pattern : List ℕ) → Sums pattern l.sums → Lagged pattern l.a 0 l.k l.initial.dues l.dues)

@@ -2,12 +2,8 @@
 use mathlib.Core.Path.{sym, ◌∙◌}
 use native.Mathlib.Omega.{arith}
 use Rattle.records.proofs.Table.{walk-on}
-use Rattle.river.proofs.Walks.{next-look, look-called, look-end, look-on}
+use Rattle.river.proofs.Walks.{next-look, look-end, look-on}
 use Rattle.river.proofs.River.+look.Goals as goal
-
-pub returns-then-short-row : goal.returns-then-short-row
-returns-then-short-row t c =
-    look-called c.args.below.now c.args.row c.args.low c.args.short.now c.args.self.now.available c.requires c.if-short-row.true
 
 pub returns-in_default : goal.returns-in_default
 returns-in_default t c =

@@ -2,16 +2,8 @@
 use mathlib.Core.Path.{refl, sym, ◌∙◌}
 use native.Mathlib.Omega.{arith}
 use Rattle.records.proofs.Table.{walk-on}
-use Rattle.river.proofs.Walks.{room-self, next-release, release-row, release-end, release-stop}
+use Rattle.river.proofs.Walks.{next-release, release-row, release-end}
 use Rattle.river.proofs.River.+release.Goals as goal
-
-pub returns-then-row-stop : goal.returns-then-row-stop
-returns-then-row-stop t c =
-    (release-stop c.args.below.now c.args.row c.args.d c.args.stop c.args.self.now.flow c.requires c.if-row-stop.true, refl)
-
-pub overflow_add-self : goal.overflow_add-self
-overflow_add-self t c =
-    omega (arith, room-self c.args.below.now c.args.row c.requires.row-ok c.args.d c.args.self.now.flow c.requires.flows)
 
 pub release-requires : goal.release-requires
 release-requires t c =
@@ -23,8 +15,8 @@ release-requires t c =
 
 pub returns-in-Some : goal.returns-in-Some
 returns-in-Some t c =
-    (release-row c.args.below.now c.args.row c.args.d c.args.stop c.args.self.now.flow c.requires c.in-Some.next _ (sym c.next_row.ensures ∙ c.in-Some.is) c.if-row-stop.false c.release.ensures.0, c.release.ensures.1)
+    (release-row c.args.below.now c.args.row c.args.d c.args.stop c.args.self.now.flow (omega arith) c.requires c.in-Some.next _ (sym c.next_row.ensures ∙ c.in-Some.is) c.if-row-stop.false c.release.ensures.0, c.release.ensures.1)
 
 pub returns-in_default : goal.returns-in_default
 returns-in_default t c =
-    (release-end c.args.below.now c.args.row c.args.d c.args.stop c.args.self.now.flow c.requires (sym c.next_row.ensures ∙ c.in_default.is) c.if-row-stop.false, refl)
+    (release-end c.args.below.now c.args.row c.args.d c.args.stop c.args.self.now.flow (omega arith) c.requires (sym c.next_row.ensures ∙ c.in_default.is) c.if-row-stop.false, refl)

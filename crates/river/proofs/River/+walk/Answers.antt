@@ -19,7 +19,7 @@ walk-requires g t c κs within =
     (omega (arith, c.decreases, w.0, w.1.on), (within, next-walk c.requires _ _ c.in-Some.next e))
 
 pub returns-in-Some : goal.returns-in-Some
-returns-in-Some g t c = changed-row c.requires _ _ _ c.change.ensures c.change-2.ensures _ _ _ (sym c.next_row.ensures ∙ c.in-Some.is) c.walk.ensures
+returns-in-Some g t c = changed-row c.requires _ _ _ c.change.ensures c.change-2.ensures (omega arith) (omega arith) _ _ _ (sym c.next_row.ensures ∙ c.in-Some.is) c.walk.ensures
 
 pub returns-in_default : goal.returns-in_default
-returns-in_default g t c = changed-end c.requires _ _ _ c.change.ensures c.change-2.ensures (sym c.next_row.ensures ∙ c.in_default.is)
+returns-in_default g t c = changed-end c.requires _ _ _ c.change.ensures c.change-2.ensures (omega arith) (omega arith) (sym c.next_row.ensures ∙ c.in_default.is)

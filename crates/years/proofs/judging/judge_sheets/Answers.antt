@@ -1,4 +1,4 @@
-use mathlib.Core.Path.{refl, ap, ◌∙◌}
+use mathlib.Core.Path.{ap, ◌∙◌}
 use Prim.Native.Nat.{ℕ}
 use native.Mathlib.Omega.{arith}
 use lib.ListN.{length}
@@ -8,14 +8,6 @@ use Rattle.rules.specs.Tally.{over_limit, over_answer}
 use Rattle.sheets.specs.Sheets.{sheet_at}
 use Rattle.years.proofs.Sheets.{over-here, over-next, over-end}
 use Rattle.years.proofs.judging.judge_sheets.Goals as goal
-
-pub loop-k-init : goal.loop-k-init
-loop-k-init c = (c.requires.1, refl, refl, omega arith)
-
-pub judge_sheet-requires : goal.judge_sheet-requires
-judge_sheet-requires c =
-    let p = c.requires.0 in
-    (record { few = omega (arith, p.few, c.loop-k.invariant.1); bytes = omega (arith, p.bytes, c.loop-k.invariant.1) }, omega arith)
 
 pub returns-in_err-judge_sheet : goal.returns-in_err-judge_sheet
 returns-in_err-judge_sheet c =

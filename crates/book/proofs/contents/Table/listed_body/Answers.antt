@@ -1,0 +1,20 @@
+-- `book::contents::Table::listed_body` meets its contract. Assumes nothing.
+use Rattle.std.proofs.Common.{sym, ◌∙◌, rules, tests}
+use Rattle.book.proofs.Bodies.{listed, listed-within}
+use Rattle.book.proofs.contents.Table.listed_body.Goals as goal
+
+pub returns-in_err-i : goal.returns-in_err-i
+returns-in_err-i c =
+    let e = listed c.args.self.now.book.now c.args.year _ _ c.year_count.ensures c.find.ensures.ran (λ x q h. search (rules, tests)) (λ x q h. search (rules, tests)) in
+    rw (← e, c.in_err-i.was, c.from_residual.ensures)
+
+pub body_at-requires : goal.body_at-requires
+body_at-requires c =
+    let t = c.args.self.now in
+    let e = listed t.book.now c.args.year _ _ c.year_count.ensures c.find.ensures.ran (λ x q h. search (rules, tests)) (λ x q h. search (rules, tests)) in
+    (c.requires, listed-within t.rows t.book.now c.args.year _ (sym e ∙ c.in_ok-i.was))
+
+pub returns : goal.returns
+returns c =
+    let e = listed c.args.self.now.book.now c.args.year _ _ c.year_count.ensures c.find.ensures.ran (λ x q h. search (rules, tests)) (λ x q h. search (rules, tests)) in
+    rw (← e, c.in_ok-i.was, c.body_at.ensures)

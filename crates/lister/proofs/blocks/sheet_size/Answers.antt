@@ -1,7 +1,0 @@
--- `lister::blocks::sheet_size` meets its contract. Assumes nothing.
-use native.Mathlib.Omega.{arith}
-use Rattle.records.proofs.Decoded.{file-rows}
-use Rattle.lister.proofs.blocks.sheet_size.Goals as goal
-
-pub returns : goal.returns
-returns c = omega (arith, c.rows.ensures, file-rows c.args.file.now c.of.ensures.stations)

@@ -1,0 +1,45 @@
+// What is lent for October's basin, of three stations, a reservoir and five rights.
+ghost use Rattle.std.specs.Prelude.{◌≡◌, ◌∷◌, replicate};
+ghost use Rattle.fresh.specs.Fresh.{fresh_of};
+
+use fresh::fresh;
+use places::board::{BOARD_LENGTH, MONTH};
+use places::report::Shape;
+
+pub const RIGHTS: usize = 5;
+
+const ROWS: usize = 3;
+
+const RESERVOIRS: usize = 1;
+
+pub const SHAPE: Shape = Shape {
+    rights: RIGHTS,
+    rows: ROWS,
+    reservoirs: RESERVOIRS,
+};
+
+// The worked October's sheet.
+pub const SHEET: [u32; ROWS] = [2000, 700, 300];
+
+// The numbers of a report, and of the twelve of a year.
+pub const REPORT: usize = 4 * RIGHTS + 2 * ROWS + RESERVOIRS + 1;
+
+pub const YEAR_REPORTS: usize = 12 * REPORT;
+
+// The fresh board; zeros where the file is refused.
+pub fn fresh_board(file: &[u8]) -> [u64; BOARD_LENGTH]
+    ensures { result ≡ (fresh_of file.now (replicate 1226 0)).board }
+{
+    let mut board = [0; BOARD_LENGTH];
+    let _ = fresh(file, &mut board);
+    board
+}
+
+// A board that no run of months can leave: its next month is a thirteenth.
+pub fn thirteenth() -> [u64; BOARD_LENGTH]
+    ensures { result ≡ 12 ∷ replicate 1225 0 }
+{
+    let mut board = [0; BOARD_LENGTH];
+    board[MONTH] = 12;
+    board
+}
