@@ -8,7 +8,7 @@ cd "$(dirname "$0")/.."
 # reference, which lies where it did; results, since what is answered was made before; the types of lists that are lent;
 # indices; lists of nothing; and what is lent once more.
 code() {
-    sed -E 's|//.*||; /^ *(ghost|requires|ensures|invariant|decreases) /d; s/b"[^"]*"//g; s/#!?\[[^]]*\]//g; s/^ *\*[a-z_]+ = //' "$1" |
+    sed -E 's|//.*||; /^ *(ghost|requires|ensures|invariant|decreases) /d; s/b"[^"]*"//g; s/#!?\[[^]]*\]//g; s/^ *\*[a-z_]+ \+?= //' "$1" |
         sed -E "s/-> \[.*//; s/&('[a-z]+ )?(mut )?\[+(bool|[iu][0-9]+|usize)(; [0-9]+\])*\]?//g" |
         sed -E 's/([A-Za-z0-9_])\[[^]]*\]/\1/g; s/\[\]//g; s/&(mut )?\*//g'
 }

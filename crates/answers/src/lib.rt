@@ -59,6 +59,7 @@ fn place(refusal: Refusal) -> usize
     }
 }
 
+// A place is cast, here and below: std has no `From` for `usize` to `u64`, and none is lost.
 impl From<Refusal> for Answer {
     ghost from_gives = { λ r a. answer_of a ≡ told r };
 

@@ -1,5 +1,5 @@
-// Whether a board is possible in a basin. Counts of rights and rows come as numbers, each with its bound: `Counted` of an accepted file. No loop
-// leaves early: that costs more than it saves, since most boards are good.
+// Whether a board is possible in a basin. Counts come as numbers, each with its bound, where a function needs one of them and a `Shape` has three. No
+// loop leaves early: that costs more than it saves, since most boards are good.
 ghost use Rattle.std.specs.Prelude.{◌≡◌, List, ℕ, suc, ◌-◌, ◌≤◌, ◌<◌, ◌^◌, ltb, length};
 ghost use Rattle.general.specs.Tests.{all_to};
 ghost use Rattle.rules.specs.Theorems.{most_due};
@@ -18,7 +18,8 @@ use places::board::{
 use records::bodies::Bodies;
 use rules::Refusal;
 
-// The capacity of a reservoir, or 0 where there is none, as the definition has it: what no reservoir stores is what its place may hold.
+// The capacity of a reservoir, or 0 where there is none: the place of a reservoir that is not there holds 0. No `Option`, since the test that it is
+// made for would put 0 for none at once.
 fn storage_most(reservoirs: &[u8], v: usize) -> u64
     ensures { result ≡ storage_most reservoirs.now v }
 {
@@ -38,8 +39,8 @@ fn storages_ok(reservoirs: &[u8], board: &[u64; BOARD_LENGTH]) -> bool
     )
 }
 
-// The yearly limit of a right, or 0 where there is none. Of the record only these four bytes are read, as above; one function for both would
-// take a record's size and a place in it, and a definition more.
+// The yearly limit of a right, or 0 where there is none, as of a reservoir. Of a record both read only the four bytes that they need; one function for
+// both would take a record's size and a place in it, and a definition more.
 fn taken_most(rights: &[u8], i: usize) -> u64
     ensures { result ≡ taken_most rights.now i }
 {
@@ -62,7 +63,7 @@ fn held_ok(rights: &[u8], board: &[u64; BOARD_LENGTH]) -> bool
 
 // All numbers from one place to another joined by `or`: they have k bits if each of them has. No number is looked at by itself, since a small
 // basin's board is mostly places that it does not use; and the loop walks from the beginning and from the middle at once, which halves its
-// turns. The middle one of an odd number is joined twice.
+// turns. The middle one of an odd number is joined twice. With `|=`, which joins the two of a turn first, the proof did not close.
 fn joined(board: &[u64; BOARD_LENGTH], from: usize, to: usize) -> u64
     requires { (from ≤ to) × (to ≤ board_length) }
     ensures { (k : ℕ) → ltb result (2 ^ k) ≡ have_bits k board.now from (to - from) }
@@ -85,7 +86,7 @@ fn taken_ok(rights: &[u8], board: &[u64; BOARD_LENGTH]) -> bool
     held_ok(rights, board) & (unused < 1)
 }
 
-// What can be due k months after next month: what 11 - k past months have sent.
+// What can be due k months after next month: what 11 - k past months have sent. A cast, here and below, since std has no `From` for `usize` to `u64`.
 fn due_most(k: usize) -> u64
     requires { k < 11 }
     ensures { result ≡ most_due (suc k) }

@@ -1,4 +1,5 @@
-// The sums of a board: all water stored, and all water on its way back.
+// The sums of a board: all water stored, and all water on its way back. A count comes as a number with its bound, as in `possible`: of the bodies
+// nothing else is read.
 ghost use Rattle.std.specs.Prelude.{◌≡◌, suc, ◌≤◌, ◌<◌};
 ghost use Rattle.general.specs.Sums.{sum_to};
 ghost use Rattle.places.specs.Board.{storage_at, due_at};

@@ -1,10 +1,13 @@
-// The book's table of contents, and the parts of the book that it names.
+// The book's table of contents, and the parts of the book that it names. What is asked before there is a `Table` stands in front of it; its methods of
+// the same name ask nothing of length or years. `body_size`, `packed_at`, `of` and `kept` ask that the rows are at most 64; from then on the `Table`
+// keeps it.
 ghost use Rattle.std.specs.Prelude.{◌≡◌, true, false, ◌+◌, ◌*◌, ◌≤◌, ◌<◌, length, option_copied, option_map, MatchOption};
 ghost use Rattle.general.specs.Tests.{all_to};
 ghost use Rattle.book.specs.Book.{most_years, year_count, entry_at, year_at, offset_at, body_size, packed_at, rises, entry_ok, book_ok, listed_at, body_of, Kept, Sized};
 
 use numbers::bytes::le32;
 use numbers::{all_below, in_range};
+use sheets::sheet_size;
 
 const MOST_YEARS: usize = 20;
 
@@ -12,6 +15,7 @@ const FIRST_YEAR: u32 = 1800;
 
 const LAST_YEAR: u32 = 2200;
 
+// A cast, here and of an offset, since std has no `From` for `u32` to `usize`.
 #[tactic(auto, unfolding(crate::specs::Book::year_count))]
 fn year_count(book: &[u8]) -> usize
     requires { 4 ≤ length book.now }
@@ -33,7 +37,7 @@ fn body_size(rows: usize) -> usize
     requires { rows ≤ 64 }
     ensures { result ≡ body_size rows }
 {
-    12 * (4 * rows)
+    12 * sheet_size(rows)
 }
 
 // Where body i starts if those before it follow a table of so many years without gaps.
@@ -131,7 +135,7 @@ impl<'a> Table<'a> {
             & (self.offset_at(i) == self.packed_at(i))
     }
 
-    // All entries are looked at, as all records of a basin file are.
+    // All entries are looked at (`numbers::all_below`).
     fn entries_ok(&self) -> bool
         ensures { result ≡ all_to (year_count self.now.book.now) (entry_ok self.now.rows self.now.book.now) }
     {

@@ -6,11 +6,11 @@ use lib.ListN.{length, get_or}
 use borrow.Rule.Slice.PartMut.{put_mid}
 use Rattle.std.proofs.Common.{rules}
 use Rattle.std.proofs.lemmas.List.{places}
-use Rattle.closing.specs.Losses.{Evaporated, Lost}
+use Rattle.closing.specs.Losses.{Lost}
 
--- the list of losses is the report's part from `at` on
-module _ (rs : List ℕ) (m k : ℕ) (bd bd' rp losses : List ℕ) (at : ℕ) (long : length losses ≡ k) (fits : at + k ≤ length rp) (w : Evaporated rs m k bd bd' losses) where
-  here : (v : ℕ) → v < k → get_or (put_mid at k rp losses) (at + v) 0 ≡ get_or losses v 0
+-- the list of losses, of which `part` is what it was before, is that of rp from `at` on
+module _ (rs : List ℕ) (m k : ℕ) (bd bd' rp part losses : List ℕ) (at : ℕ) (long : length losses ≡ k) (fits : at + k ≤ length rp) (w : Lost rs m k bd part 0 bd' losses) where
+  here : (v : ℕ) → v < k → get_or (put_mid at k rp losses) (at + v) 0 ≡ get_or losses (0 + v) 0
   here v h = search (rules, places)
 
   front : (p : ℕ) → p < at → get_or (put_mid at k rp losses) p 0 ≡ get_or rp p 0

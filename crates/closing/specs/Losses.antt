@@ -21,17 +21,9 @@ loss_in rs m v x = evaporation m (reservoir_of rs v) x
 pub record CanEvaporate (rs : List ℕ) (m : ℕ) (losses : List ℕ) : Type 0 where
   pub few : reservoir_count rs ≤ 8
   pub in-year : m < 12
-  pub places : length losses ≡ reservoir_count rs
+  pub places : reservoir_count rs ≤ length losses
 
--- the first k reservoirs have lost theirs, which is told in the list of losses
-pub record Evaporated (rs : List ℕ) (m k : ℕ) (bd bd' losses : List ℕ) : Type 0 where
-  pub storages : (v : ℕ) → v < k → storage_at bd' v ≡ storage_at bd v - loss_in rs m v (storage_at bd v)
-  pub told : (v : ℕ) → v < k → get_or losses v 0 ≡ loss_in rs m v (storage_at bd v)
-  pub kept_front : month_at bd' ≡ month_at bd
-  pub kept : (p : ℕ) → storage_place k ≤ p → get_or bd' p 0 ≡ get_or bd p 0
-  pub size : length bd' ≡ length bd
-
--- the first k reservoirs have lost theirs, and the report tells it from `at` on
+-- the first k reservoirs have lost theirs, and the list rp tells it from `at` on: a report, or its part of the losses, which tells it from 0 on
 pub record Lost (rs : List ℕ) (m k : ℕ) (bd rp : List ℕ) (at : ℕ) (bd' rp' : List ℕ) : Type 0 where
   pub storages : (v : ℕ) → v < k → storage_at bd' v ≡ storage_at bd v - loss_in rs m v (storage_at bd v)
   pub told : (v : ℕ) → v < k → get_or rp' (at + v) 0 ≡ loss_in rs m v (storage_at bd v)

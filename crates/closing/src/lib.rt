@@ -16,8 +16,8 @@ use river::River;
 pub mod losses;
 pub mod noting;
 
-// Flow and available flow of the rows, after the lines of the rights. The rows are counted: a row is one number of each of two lists and two
-// numbers of a third.
+// Flow and available flow of the rows, after the lines of the rights. The rows are counted: by the pairs of the report's part (`chunks_exact_mut`)
+// the proof did not close, since it was told nothing of what a part that is lent pair by pair was left as.
 fn put_rows(shape: Shape, river: &River, report: &mut [u64])
     requires { CanTell shape.rights shape.rows report.old }
     ensures { RowsTold shape.rights shape.rows river.now.flow river.now.available report.old report.new }
@@ -41,7 +41,8 @@ fn next_month(m: u64) -> u64
     m + 1
 }
 
-// The end of a month, of whose returns so much went deep. Answers how many rights are short.
+// The end of a month, of whose returns so much went deep. Answers how many rights are short. The board has the month in 64 bits, and a record's depths
+// go by it: a cast, since std has no `From` for `u64` to `usize`.
 pub fn end(
     bodies: &Bodies<'_>,
     river: &River,

@@ -2,7 +2,7 @@
 ghost use Rattle.std.specs.Prelude.{◌≡◌, ◌+◌, ◌≤◌, ◌<◌};
 ghost use Rattle.records.specs.Records.{reservoir_count, survey_of, reservoir_of};
 ghost use Rattle.rules.specs.Month.{towards, on_line, area_at};
-ghost use Rattle.closing.specs.Losses.{OnLine, loss_in, CanEvaporate, Evaporated};
+ghost use Rattle.closing.specs.Losses.{OnLine, loss_in, CanEvaporate, Lost};
 
 use places::board::{BOARD_LENGTH, storage_place};
 use records::reservoirs::{area_at, content_at, depth_at};
@@ -61,9 +61,10 @@ fn loss(reservoirs: &[u8], m: usize, v: usize, storage: u64) -> u64
 // Step 4: each reservoir loses its evaporation, which is told at its place of `losses`.
 pub fn evaporate(reservoirs: &[u8], m: usize, board: &mut [u64; BOARD_LENGTH], losses: &mut [u64])
     requires { CanEvaporate reservoirs.now m losses.old }
-    ensures { Evaporated reservoirs.now m (reservoir_count reservoirs.now) board.old board.new losses.new }
+    ensures { Lost reservoirs.now m (reservoir_count reservoirs.now) board.old losses.old 0 board.new losses.new }
 {
-    for (v, lost) in losses.iter_mut().enumerate() {
+    let n = reservoirs.len() / 68;
+    for (v, lost) in losses[..n].iter_mut().enumerate() {
         let place = storage_place(v);
         let held = board[place];
         *lost = loss(reservoirs, m, v, held);

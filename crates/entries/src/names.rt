@@ -10,7 +10,7 @@ pub const ENTRIES: usize = 4;
 
 pub const NAME_LENGTH: usize = 8;
 
-// Whether eight bytes are the name.
+// Whether eight bytes are the name: the library's `==` by the name that the definitions have for it. `store` asks it of a lent name too.
 #[tactic(auto, unfolding(crate::specs::Entries::same_name))]
 pub fn same_name(part: [u8; 8], name: [u8; 8]) -> bool
     ensures { result ≡ same_name part name }

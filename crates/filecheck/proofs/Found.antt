@@ -10,6 +10,7 @@ use Rattle.general.specs.Tables.{tab}
 use Rattle.general.specs.Tests.{first_at}
 use Rattle.general.proofs.Fill.{filled, fill_none, fill_more}
 use Rattle.rules.specs.Path.{row_below}
+use Rattle.rules.proofs.Path.{below-later}
 use Rattle.records.specs.Records.{rows_of, stations_of}
 use Rattle.records.specs.Table.{below_code, table_of, TableFor}
 use Rattle.records.proofs.Rows.{rows_are}
@@ -32,9 +33,9 @@ module _ (s : List ℕ) where
   found_none = fill_none code 255 64
 
   module _ (i q : ℕ) (b : Option ℕ) (e : b ≡ row_below (stations_of s) i) (g : b ≡ Some q) where
-    -- a row's number fits in a byte, since there are at most 64
-    pub found-small : rows_of s ≤ 64 → q < 64
-    found-small few = omega (arith, (code_row (stations_of s) i q (sym e ∙ g)).0, rows_are s)
+    -- it is a later row, and one of at most 64
+    pub found-later : rows_of s ≤ 64 → (i < q) × (q < 64)
+    found-later few = let w = below-later (stations_of s) i q (sym e ∙ g) in (w.0, omega (arith, w.1, rows_are s))
 
     pub found-more : (t : List ℕ) → i < 64 → t ≡ found_to i → set t i q ≡ found_to (i + 1)
     found-more t h k = fill_more code 255 64 i t q h (code_row (stations_of s) i q (sym e ∙ g)).1 k

@@ -8,6 +8,7 @@ use crate::reservoirs::check_reservoirs;
 use crate::rights::check_rights;
 use crate::stations::check_stations;
 use records::bodies::Bodies;
+use records::network::RowsBelow;
 use rules::Refusal;
 use sections::layout_ok;
 
@@ -17,7 +18,7 @@ fn check_bodies(bodies: &Bodies<'_>) -> Result<(), Refusal>
     requires { (0 < rows_of bodies.now.stations.now) × (rows_of bodies.now.stations.now ≤ 64) }
     ensures { result ≡ bodies_verdict bodies.now.stations.now bodies.now.reservoirs.now bodies.now.patterns.now bodies.now.rights.now }
 {
-    let mut below = [255u8; 64];
+    let mut below = RowsBelow::none();
     check_stations(bodies.stations, &mut below)?;
     check_reservoirs(bodies)?;
     check_patterns(bodies.patterns)?;

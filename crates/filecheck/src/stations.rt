@@ -6,7 +6,7 @@ ghost use Rattle.filerules.specs.FileRules.{station_ok};
 ghost use Rattle.filecheck.specs.Check.{stations_verdict, only_if};
 
 use filerules::stations::plain_ok;
-use records::network::row_below;
+use records::network::{RowsBelow, row_below};
 use records::stations::station_at;
 use rules::Refusal;
 
@@ -24,12 +24,13 @@ fn check_last(stations: &[u8], last: usize) -> Result<(), Refusal>
 }
 
 // The first row at fault. A row above the last has to find a row to go on to; what it finds goes into the table, by which the rights' rules
-// walk down the river, and the first row that finds none is left with (`let .. else`). The rows are counted: a row's number is its place in the
-// table and its refusal's. The last row's place keeps the number that stands for none.
-pub fn check_stations(stations: &[u8], below: &mut [u8; 64]) -> Result<(), Refusal>
-    requires { (0 < rows_of stations.now) × (rows_of stations.now ≤ 64) × (below.old ≡ replicate 64 255) }
+// walk down the river, and at the first row that finds none the check ends. So the table is made here too, and not by `look_up`, which
+// would search for each row below once more. The rows are counted: a row's number is its place in the table and its refusal's. The last row's place
+// keeps the number that stands for none. The table is lent, so that it stands in memory once.
+pub fn check_stations(stations: &[u8], below: &mut RowsBelow) -> Result<(), Refusal>
+    requires { (0 < rows_of stations.now) × (rows_of stations.now ≤ 64) × (below.old.rows ≡ replicate 64 255) }
     ensures value { result ≡ stations_verdict stations.now }
-    ensures table_for { result ≡ Ok tt → TableFor stations.now below.new }
+    ensures table_for { result ≡ Ok tt → TableFor stations.now below.new.rows }
 {
     let last = stations.len() / 8 - 1;
     for row in 0..last {
@@ -39,7 +40,7 @@ pub fn check_stations(stations: &[u8], below: &mut [u8; 64]) -> Result<(), Refus
         let Some(next) = row_below(stations, row) else {
             return Err(Refusal::Station(row));
         };
-        below[row] = next as u8;
+        below.lead(row, next);
     }
     check_last(stations, last)
 }

@@ -1,5 +1,6 @@
-// The rules of a right. A right is told by the bodies, its place and its record: the rules of the file are those of the right at a place
-// (`records`), and what they ask of the record is read once, before them.
+// The rules of a right. Bodies, place and record are three and no struct: most rules read the record alone, and those that read more go by the
+// place, as the definitions do. That there are at most four points is asked by each rule that reads points: a record is read before they are counted,
+// so that its type can't say it.
 ghost use Rattle.std.specs.Prelude.{List, ◌≡◌, ℕ, ◌≤◌, ◌<◌, MatchOption};
 ghost use Rattle.general.specs.Sums.{sum_to};
 ghost use Rattle.records.specs.Records.{rows_of, reservoir_count, reservoir_record, pattern_count, right_count, return_percent};
@@ -9,7 +10,7 @@ ghost use Rattle.records.specs.Table.{GoodRows, TableFor, ReservoirsOn};
 use numbers::bytes::{all_at_most, byte_sum};
 use numbers::{all_below, in_range};
 use records::bodies::Bodies;
-use records::network::on_path;
+use records::network::RowsBelow;
 use records::reservoirs::reservoir_at;
 use records::rights::{Kind, RightRecord, kind_byte, return_percent, return_row, right_at};
 
@@ -62,16 +63,16 @@ fn reservoir_row(reservoirs: &[u8], v: usize) -> Option<usize>
 // The reservoir that the right names, and where the right stands to it. Only a project right needs a walk down the river. The promise is for the
 // stations that the table was made from.
 #[tactic(auto, unfolding(crate::specs::FileRules::source_ok))]
-fn source_ok(below: &[u8; 64], reservoirs: &[u8], r: RightRecord) -> bool
-    requires { ReservoirsOn below.now reservoirs.now }
-    ensures { (st : List ℕ) → TableFor st below.now → GoodRows st reservoirs.now → result ≡ source_ok r.kind st reservoirs.now r }
+fn source_ok(below: &RowsBelow, reservoirs: &[u8], r: RightRecord) -> bool
+    requires { ReservoirsOn reservoirs.now }
+    ensures { (st : List ℕ) → TableFor st below.now.rows → GoodRows st reservoirs.now → result ≡ source_ok r.kind st reservoirs.now r }
 {
     let kind = r.kind;
     let v = usize::from(r.reservoir);
     let row = usize::from(r.row);
     match kind {
         Kind::Direct | Kind::Instream => r.reservoir == 255,
-        Kind::Project => reservoir_row(reservoirs, v).is_some_and(|from| on_path(below, from, row)),
+        Kind::Project => reservoir_row(reservoirs, v).is_some_and(|from| below.on_path(from, row)),
         Kind::Storage => reservoir_row(reservoirs, v) == Some(row),
     }
 }
@@ -175,8 +176,8 @@ fn right_rises(rights: &[u8], i: usize) -> bool
 
 // All rules of one right.
 #[tactic(auto, using(general::proofs::Tests::joins), unfolding(crate::specs::FileRules::right_ok, crate::specs::FileRules::amounts_ok, records::specs::Records::amount_at, numbers::specs::Bytes::all_at_most))]
-pub fn right_ok(bodies: &Bodies<'_>, below: &[u8; 64], i: usize) -> bool
-    requires { (i < right_count bodies.now.rights.now) × TableFor bodies.now.stations.now below.now × GoodRows bodies.now.stations.now bodies.now.reservoirs.now }
+pub fn right_ok(bodies: &Bodies<'_>, below: &RowsBelow, i: usize) -> bool
+    requires { (i < right_count bodies.now.rights.now) × TableFor bodies.now.stations.now below.now.rows × GoodRows bodies.now.stations.now bodies.now.reservoirs.now }
     ensures { result ≡ right_ok bodies.now.stations.now bodies.now.reservoirs.now (pattern_count bodies.now.patterns.now) bodies.now.rights.now i }
 {
     let rights = bodies.rights;

@@ -1,4 +1,7 @@
 // Reading that tells a failure from the end of the input, and writing that an interruption does not end.
+// What reads a file or a word hands out the part of the lent list that it filled, and promises that it is no longer than the list, as the programs'
+// functions do that pass it on: the part is a slice already, and a type for the promise would have to keep the list's length beside it. `fill` alone
+// tells a count, as what came before a failure is told by one too.
 #![tactic(auto)]
 
 ghost use Rattle.std.specs.Prelude.{◌≡◌, ◌<◌, ◌≤◌, length, take, IfOk, OnOk};
@@ -88,8 +91,8 @@ pub fn read_whole<'a, R: Files + Eprint>(rt: &R, path: &[u8], buf: &'a mut [u8])
     }
 }
 
-// Writes all of the bytes. Fails at the first write that moves nothing. std's `write_all` counts its tries on standard output, and gives a text up
-// whose writes are interrupted again and again.
+// Writes all of the bytes. Fails at the first write that moves nothing. Not std's `write_all`, which on standard output gives a text up after many
+// interrupted writes: here the tries are counted too, as in `fill`, but up to more than any program lives to make.
 pub fn send<W: Write>(to: &mut W, bytes: &[u8]) -> io::Result<()>
     ensures { OnOk result (Appends (W.contents to.old) (W.contents to.new) bytes.now) }
 {

@@ -12,15 +12,15 @@ use records::bodies::Bodies;
 use records::reservoirs::reservoir_at;
 use rules::Refusal;
 
-// The starting storage of each reservoir. The reservoirs are counted: the number of a reservoir tells both its record and its place on the board.
+// The starting storage of each reservoir. They stand together on the board, in the order of the records.
 fn store_starts(reservoirs: &[u8], board: &mut [u64; BOARD_LENGTH])
     requires { reservoir_count reservoirs.now ≤ 8 }
     ensures { Started reservoirs.now (reservoir_count reservoirs.now) board.old board.new }
 {
     let n = reservoirs.len() / 68;
-    for v in 0..n {
-        let reservoir = reservoir_at(reservoirs, v);
-        board[storage_place(v)] = u64::from(reservoir.start);
+    let first = storage_place(0);
+    for (v, place) in board[first..first + n].iter_mut().enumerate() {
+        *place = u64::from(reservoir_at(reservoirs, v).start);
     }
 }
 

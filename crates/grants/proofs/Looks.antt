@@ -21,7 +21,7 @@ use Rattle.records.specs.declared.rights.Kind.TheVariants.{Direct, Project, Inst
 use Rattle.records.specs.Records.{rows_of, station_record, station_of, stations_of}
 use Rattle.river.specs.declared.Seen.{Seen}
 use Rattle.river.specs.declared.Seen.TheVariants as seen
-use Rattle.records.specs.Table.{path_by}
+use Rattle.records.specs.Table.{path_by, Downhill}
 use Rattle.river.specs.Arrays.{seen_on}
 use Rattle.records.proofs.Table.{by-self}
 use Rattle.river.proofs.Table.{by_in}
@@ -117,9 +117,9 @@ seen_low sh a low (x ∷ p) q e = go (get_or sh x false) refl (λ l. seen_low sh
 
 -- ---- at the right's own row, which the code has as i, and at the row q that the look found
 
-module _ {st t : List ℕ} {row i : ℕ} (o : CanSee st t row) (e : i ≡ row) where
+module _ {st t : List ℕ} {row i : ℕ} (down : Downhill t) (o : CanSee st t row) (e : i ≡ row) where
   pub own_in : i < rows_of st
-  own_in = rw e (o.stationed row (by-self t o.row-ok.downhill row o.row-ok.on))
+  own_in = rw e (o.stationed row (by-self t down row o.on))
 
   module _ (a : List ℕ) (sh : List Bool) {x : Seen} (q : ℕ) (s : x ≡ seen_on sh a i (path_by t i)) where
     found : {y : Seen} → x ≡ y → seen_on sh a row (path_by t row) ≡ y
@@ -129,13 +129,13 @@ module _ {st t : List ℕ} {row i : ℕ} (o : CanSee st t row) (e : i ≡ row) w
     called_in f = o.stationed q (seen-called sh a row (path_by t row) q (found f)).0
 
     low-path : x ≡ seen.Low q → has q (path_by t row) ≡ true
-    low-path f = has-once q row (path_by t row) (by-self t o.row-ok.downhill row o.row-ok.on) (seen_low sh a row (path_by t row) q (found f)).on
+    low-path f = has-once q row (path_by t row) (by-self t down row o.on) (seen_low sh a row (path_by t row) q (found f)).on
 
     pub low_in : x ≡ seen.Low q → q < rows_of st
     low_in f = o.stationed q (low-path f)
 
     pub low_on : x ≡ seen.Low q → q < 64
-    low_on f = by_in t o.row-ok.downhill row o.row-ok.on q (low-path f)
+    low_on f = by_in t down row o.on q (low-path f)
 
 -- ---- what the code answers
 
@@ -153,25 +153,25 @@ others Instream n = absurd (n refl)
 others Storage n = refl
 
 -- y is the record of the station that is named
-module _ {st t : List ℕ} (a : List ℕ) (sh : List Bool) (k : Kind) {row i : ℕ} (ask : ℕ) {y : StationRecord} (o : CanSee st t row) (e : i ≡ row) where
+module _ {st t : List ℕ} (a : List ℕ) (sh : List Bool) (k : Kind) {row i : ℕ} (ask : ℕ) {y : StationRecord} (down : Downhill t) (o : CanSee st t row) (e : i ≡ row) where
   pub gave_own : {x : ℕ} → k ≡ Instream → x ≡ min ask (get_or a i 0) → y ≡ station_record st i → RiverGave st t a sh k row ask (record { part = x; reason = RiverLow y.number })
   unfolding part_of reason_of
-  gave_own z p n = rw (z, ← e) (record { part = p; reason = λ l. ap RiverLow (ap (λ (s : StationRecord). s.number) n ∙ number_is st i (own_in o e)) })
+  gave_own z p n = rw (z, ← e) (record { part = p; reason = λ l. ap RiverLow (ap (λ (s : StationRecord). s.number) n ∙ number_is st i (own_in down o e)) })
 
   module _ {x : Seen} (q : ℕ) (u : k ≡ Instream → ⊥) (s : x ≡ seen_on sh a i (path_by t i)) (n : y ≡ station_record st q) where
     seen-is : {z : Seen} → x ≡ z → seen_by k t a sh row ≡ z
-    seen-is f = seen-along k t a sh row (others k u) ∙ found o e a sh q s f
+    seen-is f = seen-along k t a sh row (others k u) ∙ found down o e a sh q s f
 
     pub gave_called : x ≡ seen.Called q → RiverGave st t a sh k row ask (record { part = 0; reason = Called y.number })
     unfolding part_of reason_of
     gave_called f = record {
       part = sym (ap (part_of a ask) (seen-is f));
-      reason = λ l. ap Called (ap (λ (s : StationRecord). s.number) n ∙ number_is st q (called_in o e a sh q s f)) ∙ sym (ap (reason_of st) (seen-is f));
+      reason = λ l. ap Called (ap (λ (s : StationRecord). s.number) n ∙ number_is st q (called_in down o e a sh q s f)) ∙ sym (ap (reason_of st) (seen-is f));
     }
 
     pub gave_low : {d : ℕ} → x ≡ seen.Low q → d ≡ min ask (get_or a q 0) → RiverGave st t a sh k row ask (record { part = d; reason = RiverLow y.number })
     unfolding part_of reason_of
     gave_low f p = record {
       part = p ∙ sym (ap (part_of a ask) (seen-is f));
-      reason = λ l. ap RiverLow (ap (λ (s : StationRecord). s.number) n ∙ number_is st q (low_in o e a sh q s f)) ∙ sym (ap (reason_of st) (seen-is f));
+      reason = λ l. ap RiverLow (ap (λ (s : StationRecord). s.number) n ∙ number_is st q (low_in down o e a sh q s f)) ∙ sym (ap (reason_of st) (seen-is f));
     }

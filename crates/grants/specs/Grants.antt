@@ -7,7 +7,7 @@ use Rattle.records.specs.declared.rights.Kind.TheVariants.{Direct, Project, Inst
 use Rattle.records.specs.Records.{rows_of, stations_of}
 use Rattle.river.specs.declared.Seen.{Seen}
 use Rattle.river.specs.declared.Seen.TheVariants as seen
-use Rattle.records.specs.Table.{path_by, OnTable}
+use Rattle.records.specs.Table.{path_by}
 use Rattle.river.specs.Arrays.{seen_on}
 use Rattle.grants.specs.declared.grants.Reason.{Reason}
 use Rattle.grants.specs.declared.grants.Reason.TheVariants.{Met, Called, RiverLow, StorageOut}
@@ -22,7 +22,7 @@ why_of StorageOut = 3
 
 -- a row of the table, and a station at each row of its path
 pub record CanSee (st t : List ℕ) (row : ℕ) : Type 0 where
-  pub row-ok : OnTable t row
+  pub on : row < 64
   pub stationed : (q : ℕ) → has q (path_by t row) ≡ true → q < rows_of st
 
 -- the row that decides: an instream right's own, else what is seen on the right's path

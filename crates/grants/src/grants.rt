@@ -57,8 +57,8 @@ pub fn river_part(
     right: RightRecord,
     demand: u64,
 ) -> RiverPart
-    requires { let s = setting.now in CanSee s.bodies.now.stations.now s.below.now right.row }
-    ensures { let s = setting.now in RiverGave s.bodies.now.stations.now s.below.now river.now.available short.now right.kind right.row demand result }
+    requires { let s = setting.now in CanSee s.bodies.now.stations.now s.below.now.rows right.row }
+    ensures { let s = setting.now in RiverGave s.bodies.now.stations.now s.below.now.rows river.now.available short.now right.kind right.row demand result }
 {
     if demand == 0 {
         return RiverPart {

@@ -1,5 +1,5 @@
-// The stages of a right's turn: its demand, its part from the river, its part from storage. Beside its record a right's place is told where its
-// amounts are read, or its place on the board is.
+// The stages of a right's turn: its demand, its part from the river, its part from storage. A right's place is lent beside its record only to the stages
+// that read its amounts or its number on the board; `take` and `draw` need the record alone.
 ghost use Rattle.std.specs.Prelude.{◌≡◌, not, ◌+◌, ◌<◌, min, length};
 ghost use Rattle.general.specs.Sums.{only};
 ghost use Rattle.places.specs.Board.{board_length};
@@ -15,7 +15,7 @@ use river::River;
 use river::setting::Setting;
 
 // The amount of month m, if that month is in use. The amounts stand behind the part of a record that is read whole, and one is read when it
-// is asked for.
+// is asked for. A bit goes by a number of 64 bits: a cast, here and below, since std has no `From` for `usize` to `u64`.
 #[tactic(auto, unfolding(crate::specs::Stages::amount_in, records::specs::Records::amount_at))]
 fn scheduled(rights: &[u8], i: usize, right: RightRecord, m: usize) -> u64
     requires { (i < right_count rights.now) × (m < 12) × (right ≡ right_record rights.now i) }
@@ -79,8 +79,8 @@ pub fn demand_of(
 // The river part d leaves the river: an instream right's the available flow at its row alone, another's flow and available flow along the path. A part of nothing is no work.
 #[tactic(auto, unfolding(crate::specs::Stages::levels_taken), using(crate::proofs::RightKinds::taken_nothing, crate::proofs::RightKinds::taken_instream))]
 pub fn take(setting: &Setting, river: &mut River, right: RightRecord, d: u64)
-    requires { CanTake right.kind setting.now.below.now right.row d river.old.flow river.old.available }
-    ensures { Taken right.kind setting.now.below.now right.row d river.old.flow river.old.available river.new.flow river.new.available }
+    requires { CanTake right.kind setting.now.below.now.rows right.row d river.old.flow river.old.available }
+    ensures { Taken right.kind setting.now.below.now.rows right.row d river.old.flow river.old.available river.new.flow river.new.available }
 {
     if d == 0 {
         return;
@@ -142,8 +142,8 @@ pub fn draw(
     right: RightRecord,
     lacking: u64,
 ) -> u64
-    requires { let s = setting.now in CanDraw right.kind s.below.now s.bodies.now.reservoirs.now right.reservoir lacking river.old.flow board.old }
-    ensures { let s = setting.now in Drawn right.kind s.below.now s.bodies.now.reservoirs.now right.reservoir right.row lacking river.old.flow board.old river.new.flow board.new result × (river.new.available ≡ river.old.available) }
+    requires { let s = setting.now in CanDraw right.kind s.below.now.rows s.bodies.now.reservoirs.now right.reservoir lacking river.old.flow board.old }
+    ensures { let s = setting.now in Drawn right.kind s.below.now.rows s.bodies.now.reservoirs.now right.reservoir right.row lacking river.old.flow board.old river.new.flow board.new result × (river.new.available ≡ river.old.available) }
 {
     let Kind::Project = right.kind else {
         return 0;

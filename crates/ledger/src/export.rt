@@ -25,6 +25,7 @@ use years::run::run_year;
 pub extern "C" fn river_check(file: &[u8]) -> u32
     ensures { result ≡ (verdict_answer (check_of file.now)).number }
 {
+    // At most 12: C has this number in 32 bits.
     Answer::from(check(file)).number as u32
 }
 

@@ -1,4 +1,4 @@
-// The lines of a month: one for each right, and the end line.
+// The lines of a month: one for each right, and the end line. The lines of rights are lent the body of rights alone, and ask for its bound.
 ghost use Rattle.std.specs.Prelude.{◌≡◌, List, ℕ, ◌^◌, ◌≤◌, ◌<◌, length, sum};
 ghost use Rattle.places.specs.Report.{lines_end};
 ghost use Rattle.records.specs.Records.{right_count, right_of, rights_of, bodies as basin_by};
@@ -31,7 +31,8 @@ fn put_right(text: &mut Text, month: u64, rights: &[u8], report: &[u64], i: usiz
     ]);
 }
 
-// The lines of all rights, by index, since a line is told by the i-th record and the i-th part of the report.
+// The lines of all rights, by index: by the parts of both lists (`chunks_exact` and `zip`) it proves too, but a listed month of the largest basin
+// takes 2.3 in a hundred more instructions. By the parts of the rights alone the report would still go by index, which is no plainer.
 fn put_rights(text: &mut Text, month: u64, rights: &[u8], report: &[u64])
     requires { (32256 ≤ text.old.room) × (right_count rights.now ≤ 256) × (lines_end (right_count rights.now) ≤ length report.now) }
     ensures { Put 32256 (right_lines month (rights_of rights.now) report.now (right_count rights.now)) text.old text.new }

@@ -1,10 +1,11 @@
 // Numbers as text. A number fits into the room that is asked for, so that it is put there and then: `write!` would answer a `Result` for each, of
-// which none is an error. The digits are put into the list of a text from a place on, and the place after them is handed on, since a text whose length is
-// written with every byte was measured: a listing took a sixth more instructions.
+// which none is an error. The digits are put into the list of a text from a place on, and the place after them is handed on, since by a text that
+// writes its length with every byte a listing took a sixth more instructions (`docs/PERFORMANCE.md`).
 ghost use Rattle.std.specs.Prelude.{[], ◌∷◌, ◌≡◌, ◌+◌, ◌*◌, ◌/◌, ◌%◌, ◌≤◌, ◌<◌, length, map, set};
 ghost use Rattle.listing.specs.Listing.{digit as digit_of, decimal_text, line_of};
 ghost use Rattle.lines.specs.Putting.{PutAt};
 
+// Below ten, so that the cast loses nothing; `try_from` would answer a `Result` that is never an error.
 fn digit(d: u64) -> u8
     requires { d < 10 }
     ensures { result ≡ digit_of d }

@@ -3,7 +3,7 @@ use Rattle.rules.specs.declared.Refusal.TheVariants.{Lists}
 use mathlib.Core.Bool.{true, false}
 use mathlib.Core.List.{List, [], append-nil}
 use mathlib.Core.Path.{◌≡◌, refl, sym, ap, ◌∙◌, subst}
-use Prim.Native.Nat.{ℕ, suc, ◌+◌, ◌*◌, ◌≤◌, ◌<◌}
+use Prim.Native.Nat.{ℕ, suc, ◌+◌, ◌≤◌, ◌<◌}
 use native.Mathlib.Numerals.{add-one}
 use native.Mathlib.Omega.{arith}
 use lib.ListN.{length, get_or}
@@ -150,7 +150,7 @@ module _ (part : List ℕ) (l : Listing) (can : CanStep l) where
     kept = record { file = refl; same_board = refl; same_report = refl; report = refl; text = refl };
   }
 
-  pub part-short : (n : ℕ) → n ≡ rows (basin_of l.file.now) → (length part ≡ 0 → ⊥) → (length part ≡ 4 * n → ⊥) → (l' : Listing) → Refused (told Lists) l l' → Stepped part l l'
-  part-short n e z other l' w =
-      refused-as (told Lists) can.in_order (short-meets (basin_of l.file.now) (standing l) part (omega (arith, z)) (λ v. other (omega (arith, v, e))))
+  pub part-short : 0 < length part → (length part ≡ sheet_bytes (basin_of l.file.now) → ⊥) → (l' : Listing) → Refused (told Lists) l l' → Stepped part l l'
+  part-short some_bytes other l' w =
+      refused-as (told Lists) can.in_order (short-meets (basin_of l.file.now) (standing l) part some_bytes other)
       refl refl refl (kept_none l) w

@@ -7,13 +7,14 @@ ghost use Rattle.lister.specs.Lister.{CanListBlock, BlockListed, SheetsListed, M
 use crate::Listing;
 use lines::month_lines::MOST_TEXT;
 use records::bodies::Bodies;
+use sheets::sheet_size;
 
 impl<'a, 't> Listing<'a, 't> {
     // The bytes of one sheet.
     pub fn sheet_size(&self) -> usize
         ensures { result ≡ sheet_bytes (basin_of self.now.file.now) }
     {
-        4 * Bodies::of(self.file).rows()
+        sheet_size(Bodies::of(self.file).rows())
     }
 
     // The whole sheets of a block, until one ends the listing or the next month's text might not fit. Answers how many bytes they have.
@@ -37,7 +38,8 @@ impl<'a, 't> Listing<'a, 't> {
     }
 
     // The parts of a block: its whole sheets and, where the file ends with it, what follows them, if only nothing, which ends the listing. There
-    // is room for one month at least, so that each call goes on. Answers how many bytes are listed.
+    // is room for one month at least, so that each call goes on. Answers how many bytes are listed, and not the rest, since the promise speaks of a
+    // place in the block.
     pub fn list_block(&mut self, block: &[u8], last: bool) -> usize
         requires { CanListBlock block.now self.old }
         ensures { BlockListed block.now last 0 self.old self.new result × Moves (basin_of self.old.file.now) block.now last self.new result }

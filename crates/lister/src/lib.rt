@@ -9,7 +9,8 @@ use lines::text::Text;
 use places::board::BOARD_LENGTH;
 
 // A listing as it is made: the basin file, the board as the last month left it, a list for the report of a month, the text so far, the months
-// listed, and whether it goes on: a flag beside them, since a listing that has ended is still there to be told and its text to be written.
+// listed, and whether it goes on: a flag beside them, since a listing that has ended is still there to be told and its text to be written. That its file
+// is accepted and its board possible is asked by each step: of a listing that a refusal has ended neither need hold.
 #[derive(Drop)]
 pub struct Listing<'a, 't> {
     pub file: &'a [u8],

@@ -14,7 +14,7 @@ use lines::month_lines::put_month;
 use month::run::run_sheet;
 use records::bodies::Bodies;
 use rules::Refusal;
-use sheets::decode;
+use sheets::{decode, sheet_size};
 
 impl<'a, 't> Listing<'a, 't> {
     // A refusal is the last line of a listing.
@@ -50,13 +50,12 @@ impl<'a, 't> Listing<'a, 't> {
         requires { CanStep self.old }
         ensures { Stepped part.now self.old self.new }
     {
-        let left = part.len();
-        if left == 0 {
+        if part.is_empty() {
             self.more = false;
             return;
         }
         let n = Bodies::of(self.file).rows();
-        if left != 4 * n {
+        if part.len() != sheet_size(n) {
             self.refuse(Answer::from(Refusal::Lists));
             return;
         }

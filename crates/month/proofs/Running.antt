@@ -25,11 +25,10 @@ use Rattle.closing.specs.Losses.{Lost}
 use Rattle.closing.specs.Noting.{WordsNoted}
 use Rattle.opening.specs.Opening.{most_inflow, inflow, CanGather, Gathered, CanOpen}
 use Rattle.places.specs.Board.{Roomy, month_place, storage_place, dues_of, due_place, words_from, board_length, month_at, storage_at, marks_at, taken_at, due_at, word_at}
-use Rattle.river.specs.Arrays.{RiverOk}
 use Rattle.river.specs.Setting.{SettingOf}
 use Rattle.river.specs.declared.setting.Setting.{Setting}
 use Rattle.turns.specs.State.{state_of, Within}
-use Rattle.turns.proofs.Facts.{downhill, path-in}
+use Rattle.turns.proofs.Facts.{path-in}
 use Rattle.opening.proofs.Openings.{gathered-river, opening-is}
 use Rattle.places.specs.Report.{rows_end}
 use Rattle.places.proofs.BoardPlaces.{by-places}
@@ -157,7 +156,6 @@ module _ (w : Bodies) (runoff bd rp : List ℕ) (c : CanRun (basin_in w) runoff 
 
   pub can-gather : (f a : List ℕ) → ((i : ℕ) → get_or f i 0 ≡ 0) → ((i : ℕ) → get_or a i 0 ≡ 0) → CanGather t runoff bd f a
   can-gather f a ef ea = record {
-    downhill = downhill setting;
     sheet = omega (arith, c.sheet, c.accepted.few_rows);
     within = λ j i h e. omega (arith, c.sheet, path-in setting j (omega (arith, c.sheet)) i e);
     small = λ j. inflow-small j;
@@ -172,12 +170,12 @@ module _ (w : Bodies) (runoff bd rp : List ℕ) (c : CanRun (basin_in w) runoff 
     month-is : m ≡ month_at bd
     month-is = em ∙ ap month_at e₁ ∙ opened-month bd
 
-    pub can-serve : {s : Setting} → s.bodies.now ≡ w → s.below.now ≡ t → s.sums.now ≡ pa → CanServe s m f a bd₁ rp
+    pub can-serve : {s : Setting} → s.bodies.now ≡ w → s.below.now.rows ≡ t → s.sums.now ≡ pa → CanServe s m f a bd₁ rp
     can-serve {s} ew es ep = record {
       basin = b;
       setting = rw (ew, es, ep) setting;
       in-year = omega (arith, month-is, month-most b bd c.can);
-      river = subst (λ (x : List ℕ). RiverOk x f a 1000000000000000000) (sym es) (gathered-river t runoff bd (replicate 64 0) (replicate 64 0) dry f a g);
+      river = gathered-river t runoff bd (replicate 64 0) (replicate 64 0) dry f a g;
       board = subst (λ (x : List ℕ). Roomy x 1000000000000000000) (sym e₁) (record { room = opened-small b c.accepted bd c.can size });
       within = subst (Within b) (sym e₁) (opened-within b c.accepted bd c.can size);
       lines = omega (arith, c.room, bodies-rights w, ap (λ (x : Bodies). right_count x.rights.now) ew);

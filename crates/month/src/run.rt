@@ -1,4 +1,5 @@
-// One month of the bodies of an accepted file, on a possible board. Runoff, board and report are lent one by one, as C lends them.
+// One month of the bodies of an accepted file, on a possible board. Runoff, board and report are lent one by one, as C lends them. A board is possible
+// in one basin and not in another, so that no type of either could say it: what runs months asks it, here and in `years`.
 ghost use Rattle.records.specs.Bodies.{basin_in};
 ghost use Rattle.answers.specs.Answers.{count_answer};
 ghost use Rattle.month.specs.Month.{outcome_of};
@@ -9,7 +10,7 @@ use closing::end;
 use opening::begin;
 use places::board::{BOARD_LENGTH, MONTH};
 use records::bodies::Bodies;
-use records::network::rows_below;
+use records::network::RowsBelow;
 use records::patterns::add_up;
 use river::River;
 use river::setting::Setting;
@@ -26,8 +27,8 @@ pub fn run(
     requires { CanRun (basin_in bodies.now) runoff.now board.old report.old }
     ensures { Ran (basin_in bodies.now) runoff.now board.old report.old board.new report.new result }
 {
-    let mut below = [255; 64];
-    rows_below(bodies.stations, &mut below);
+    let mut below = RowsBelow::none();
+    below.look_up(bodies.stations);
     let mut sums = [[0; 12]; 16];
     add_up(bodies.patterns, &mut sums);
     let setting = Setting {
@@ -41,6 +42,7 @@ pub fn run(
     };
     let mut short = [false; 64];
     begin(setting.below, runoff, &mut river, board);
+    // A cast, since std has no `From` for `u64` to `usize`.
     let m = board[MONTH] as usize;
     let deep = serve_all(&setting, m, &mut river, &mut short, board, report);
     end(bodies, &river, deep, board, report)

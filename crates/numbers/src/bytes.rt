@@ -47,7 +47,8 @@ pub fn put64(s: &mut [u8], at: usize, x: u64)
     s[at..at + 8].copy_from_slice(&x.to_le_bytes());
 }
 
-// Whether three bytes are zero. Compared as an array with `[0; 3]` they cost three instructions more in each record.
+// Whether three bytes are zero: one by one, as the definition tells them, and joined as all tests of a record are. Compared as an array with `[0; 3]`
+// they cost three instructions more in each record.
 #[tactic(auto, using(general::proofs::Tests::joins), unfolding(crate::specs::Bytes::three_zeros))]
 pub fn three_zeros(s: &[u8], at: usize) -> bool
     requires { at + 3 ≤ length s.now }

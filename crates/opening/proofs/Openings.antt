@@ -18,7 +18,7 @@ use Rattle.general.proofs.Tests.{eqb-other, by_eqb, eq_of, leb_yes, only-le, onl
 use Rattle.rules.specs.Basin.{Basin, rows}
 use Rattle.rules.specs.Path.{path}
 use Rattle.rules.specs.Month.{gathered, opening_levels}
-use Rattle.records.specs.Table.{table_of, path_by, OnTable}
+use Rattle.records.specs.Table.{table_of, path_by, Downhill}
 use Rattle.records.proofs.Table.{table-path, next-is, next-none, by-self, on-end, on_below}
 use Rattle.river.specs.Arrays.{levels_of, level, RiverOk}
 use Rattle.river.proofs.Table.{by-off}
@@ -66,12 +66,9 @@ module _ (t runoff bd f₀ a₀ : List ℕ) (c : CanGather t runoff bd f₀ a₀
   }
 
   -- the step of row k
-  module _ (k : ℕ) (hk : k < length runoff) (f a : List ℕ) (g : Gathering t runoff bd k f a) where
+  module _ (down : Downhill t) (k : ℕ) (hk : k < length runoff) (f a : List ℕ) (g : Gathering t runoff bd k f a) where
     low : k < 64
     low = omega (arith, c.sheet)
-
-    on : OnTable t k
-    on = record { downhill = c.downhill; on = low }
 
     -- all that is the row's has come
     come : get_or f k 0 ≡ sent_to t runoff bd k k
@@ -79,23 +76,23 @@ module _ (t runoff bd f₀ a₀ : List ℕ) (c : CanGather t runoff bd f₀ a₀
       where
         off : (r : ℕ) → r < 64 → k ≢ r → Dec (r < k) → waiting t f k k r ≡ 0
         off r h n (yes l) = ap (λ (s : Bool). only (has k (path_by t r)) (only s (get_or f r 0))) (lt-leb k r l) ∙ only_none (has k (path_by t r))
-        off r h n (no l) = ap (λ (s : Bool). only s (only (leb k r) (get_or f r 0))) (by-off t c.downhill k r h (omega (arith, n, l)))
+        off r h n (no l) = ap (λ (s : Bool). only s (only (leb k r) (get_or f r 0))) (by-off t down k r h (omega (arith, n, l)))
 
         each : (r : ℕ) → r < 64 → waiting t f k k r ≡ only (eqb k r) (get_or f k 0)
         each r h = by_eqb k r (λ s. waiting t f k k r ≡ only s (get_or f k 0))
-            (λ e. rw (← e) (ap (λ (s : Bool). only s (only (leb k k) (get_or f k 0))) (by-self t c.downhill k low) ∙ ap (λ (s : Bool). only s (get_or f k 0)) (leb_yes k k (omega arith))))
+            (λ e. rw (← e) (ap (λ (s : Bool). only s (only (leb k k) (get_or f k 0))) (by-self t down k low) ∙ ap (λ (s : Bool). only s (get_or f k 0)) (leb_yes k k (omega arith))))
             (λ n. off r h n (dec_lt r k))
 
     flow-small : (i : ℕ) → i < 64 → Dec (i < k) → get_or f i 0 ≤ 64 * most_inflow
     flow-small i h (yes l) = omega (arith, g.done i l, sent-most t runoff bd c.small k i, low)
     flow-small i h (no l) =
-        let e : waiting t f k i i ≡ get_or f i 0 = ap (λ (s : Bool). only s (only (leb k i) (get_or f i 0))) (by-self t c.downhill i h) ∙ ap (λ (s : Bool). only s (get_or f i 0)) (leb_yes k i (omega arith)) in
+        let e : waiting t f k i i ≡ get_or f i 0 = ap (λ (s : Bool). only s (only (leb k i) (get_or f i 0))) (by-self t down i h) ∙ ap (λ (s : Bool). only s (get_or f i 0)) (leb_yes k i (omega arith)) in
         omega (arith, e, at-most-sum 64 (waiting t f k i) i h, g.coming i (omega arith) h, sent-most t runoff bd c.small k i, low)
 
     module _ (d : ℕ) (e : d ≡ inflow runoff bd k) where
-      pub can-send : CanSend t k d f a
+      pub can-send : CanSend k d f a
       can-send = record {
-        row-ok = on;
+        on = low;
         small = λ i h. flow-small i h (dec_lt i k);
         more = omega (arith, e, c.small k);
       }
@@ -111,7 +108,7 @@ module _ (t runoff bd f₀ a₀ : List ℕ) (c : CanGather t runoff bd f₀ a₀
       later r h = eqb-other q r (λ z. go z (dec_lt q 64))
         where
           go : q ≡ r → Dec (q < 64) → ⊥
-          go z (yes l) = omega (arith, z, h, c.downhill.later k low l)
+          go z (yes l) = omega (arith, z, h, down.later k low l)
           go z (no l) = omega (arith, z, h, low)
 
       sent : (i : ℕ) → sent_to t runoff bd (suc k) i ≡ sent_to t runoff bd k i + only (has i (path_by t k)) d
@@ -119,12 +116,12 @@ module _ (t runoff bd f₀ a₀ : List ℕ) (c : CanGather t runoff bd f₀ a₀
 
       -- where the row below is on the way to row i, so is the row
       on-way : (i : ℕ) → i ≢ k → q < 64 → has i (path_by t k) ≡ has i (path_by t q)
-      on-way i n l = on_below t k i on q (sym (next-is t k q refl l)) n
+      on-way i n l = on_below t down k i low q (sym (next-is t k q refl l)) n
 
       passed_on : (i : ℕ) → i ≢ k → Dec (q < 64) → sum_to 64 (λ r. only (eqb q r) (only (has i (path_by t k)) x)) ≡ only (has i (path_by t k)) x
       passed_on i n (yes l) = sum_to-one 64 q (only (has i (path_by t k)) x) l
       passed_on i n (no l) =
-          let z : has i (path_by t k) ≡ false = on-end t k i on (sym (next-none t k q refl (omega arith))) n in
+          let z : has i (path_by t k) ≡ false = on-end t down k i low (sym (next-none t k q refl (omega arith))) n in
           rw z (sum_to-same 64 (λ r. only (eqb q r) 0) (λ r. 0) (λ r _. only_none (eqb q r)) ∙ sum_to-zero 64)
 
       module _ (f' a' : List ℕ) (z : Sent t k d f a f' a') where
@@ -153,10 +150,10 @@ module _ (t runoff bd f₀ a₀ : List ℕ) (c : CanGather t runoff bd f₀ a₀
 
         -- the row's own, and that of the rows before it
         own : get_or f k 0 + d ≡ sent_to t runoff bd (suc k) k
-        own = let y : only (has k (path_by t k)) d ≡ d = ap (λ (s : Bool). only s d) (by-self t c.downhill k low) in omega (arith, y, come, sent k)
+        own = let y : only (has k (path_by t k)) d ≡ d = ap (λ (s : Bool). only s d) (by-self t down k low) in omega (arith, y, come, sent k)
 
         past : (i : ℕ) → i < k → sent_to t runoff bd k i ≡ sent_to t runoff bd (suc k) i
-        past i h = let y : only (has i (path_by t k)) d ≡ 0 = ap (λ (s : Bool). only s d) (by-off t c.downhill i k low h) in omega (arith, y, sent i)
+        past i h = let y : only (has i (path_by t k)) d ≡ 0 = ap (λ (s : Bool). only s d) (by-off t down i k low h) in omega (arith, y, sent i)
 
         kept : (i : ℕ) → i < 64 → i ≢ k → eqb q i ≡ false → get_or f' i 0 ≡ get_or f i 0
         kept i h n y = z.other i h n ∙ rw y (omega arith)
@@ -176,7 +173,7 @@ module _ (t runoff bd f₀ a₀ : List ℕ) (c : CanGather t runoff bd f₀ a₀
         not-past i h l = eqb-other q i (λ y.
             let m : q < 64 = omega (arith, y, l) in
             let n : q ≢ k = λ u. absurd (omega (arith, u, y, h, hk)) in
-            let w = c.within k q hk (on-way q n m ∙ by-self t c.downhill q m) in
+            let w = c.within k q hk (on-way q n m ∙ by-self t down q m) in
             omega (arith, w, y, h))
 
         step : Gathering t runoff bd (suc k) f' a'
@@ -211,9 +208,8 @@ module _ (t runoff bd f₀ a₀ : List ℕ) (c : CanGather t runoff bd f₀ a₀
       at i (no h) l m n = n (omega arith) ∙ sym (sent-past i (omega arith))
 
   -- what is gathered leaves room for every turn of the month
-  pub gathered-river : (f a : List ℕ) → Gathered t runoff bd (length runoff) f a → RiverOk t f a 1000000000000000000
+  pub gathered-river : (f a : List ℕ) → Gathered t runoff bd (length runoff) f a → RiverOk f a 1000000000000000000
   gathered-river f a g = record {
-    downhill = c.downhill;
     room = λ i h. omega (arith, g.flow i h, sent-most t runoff bd c.small (length runoff) i, c.sheet);
     within = λ i h. omega (arith, g.flow i h, g.available i h);
   }

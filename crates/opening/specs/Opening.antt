@@ -3,7 +3,7 @@ use Rattle.std.specs.Prelude.{Bool, true, cond, ◌≢◌, List, ◌≡◌, ℕ,
 use Rattle.general.specs.Sums.{sum_to, only}
 use Rattle.general.specs.Tests.{has}
 use Rattle.places.specs.Board.{marks_place, dues_from, dues_of, last_due, words_from, month_at, storage_at, marks_at, taken_at, due_at, word_at, Parts, board_by}
-use Rattle.records.specs.Table.{path_by, Downhill, OnTable}
+use Rattle.records.specs.Table.{path_by}
 
 -- the most that enters at one row: runoff within its limit, and what eleven months can have sent
 abbrev pub most_inflow : ℕ
@@ -18,7 +18,6 @@ unfoldable pub sent_to : List ℕ → List ℕ → List ℕ → ℕ → ℕ → 
 sent_to t runoff bd k i = sum_to k (λ j. only (has i (path_by t j)) (inflow runoff bd j))
 
 pub record CanGather (t runoff bd f a : List ℕ) : Type 0 where
-  pub downhill : Downhill t
   pub sheet : length runoff ≤ 64
   pub small : (j : ℕ) → inflow runoff bd j ≤ most_inflow
   pub within : (j i : ℕ) → j < length runoff → has i (path_by t j) ≡ true → i < length runoff
@@ -26,8 +25,8 @@ pub record CanGather (t runoff bd f a : List ℕ) : Type 0 where
   pub empty₂ : (i : ℕ) → get_or a i 0 ≡ 0
 
 -- one row's step: all flows are small, so that no sum wraps
-pub record CanSend (t : List ℕ) (row d : ℕ) (f a : List ℕ) : Type 0 where
-  pub row-ok : OnTable t row
+pub record CanSend (row d : ℕ) (f a : List ℕ) : Type 0 where
+  pub on : row < 64
   pub small : (i : ℕ) → i < 64 → get_or f i 0 ≤ 64 * most_inflow
   pub more : d ≤ most_inflow
 

@@ -1,4 +1,4 @@
-// The board before the first right.
+// The board before the first right. The rows come as a number with its bound: of the bodies nothing else is read.
 ghost use Rattle.std.specs.Prelude.{◌≡◌, ◌≤◌, length};
 ghost use Rattle.general.specs.Tables.{tab};
 ghost use Rattle.places.specs.Board.{board_length};
@@ -6,8 +6,8 @@ ghost use Rattle.opening.specs.Opening.{CanOpen, cleared_at, moved_at, ended_at,
 
 use places::board::{BOARD_LENGTH, DUES, MARKS, MONTHS_DUE, WORDS, due_place, dues_of};
 
-// In October marks, water taken and short words are cleared. Storages, before them, and dues, in between, stay. Whether it is October is a value,
-// as the definition of each place has it.
+// In October marks, water taken and short words are cleared. Storages, before them, and dues, in between, stay. Whether it is October is asked here,
+// as the definition asks it of each place.
 fn clear_year(board: &mut [u64; BOARD_LENGTH], october: bool)
     ensures { board.new ≡ tab board_length (cleared_at board.old october) }
 {

@@ -1,4 +1,6 @@
 // The places of a board. It is a flat list of numbers, and so is a report, since C lends, keeps and reads them so.
+// Each function asks that its number is in range: a right's (or one past the last), a row's, a month's. A type for such a number would be made at
+// each call under the same condition, and be taken apart in the next line.
 ghost use Rattle.std.specs.Prelude.{◌≡◌, ◌≤◌, ◌<◌};
 ghost use Rattle.places.specs.Board.{storage_place, taken_place, dues_of, due_place, word_place};
 

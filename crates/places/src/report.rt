@@ -1,4 +1,4 @@
-// The places of a report.
+// The places of a report. Each function asks that its number is in range, as those of a board do.
 ghost use Rattle.std.specs.Prelude.{◌≡◌, ◌≤◌};
 ghost use Rattle.places.specs.Report.{from_river_place, flow_place, rows_end, deep_place, report_end};
 

@@ -7,7 +7,8 @@ use lister::Listing;
 use places::board::BOARD_LENGTH;
 use places::report::MOST_REPORT;
 
-// The listing of a basin: where its file is not turned down `list` goes on with it. What is then left of the text is written.
+// The listing of a basin: where its file is not turned down `list` goes on with it. It may ask for a listing that has just begun: that is true only
+// at first, so that no field of `Listing` can promise it. What is left of the text at the end is written.
 pub fn with_listing<R: Print + Eprint, F: FnOnce(&mut Listing<'_, '_>) -> Result<(), Unwritten>>(
     rt: &R,
     file: &[u8],

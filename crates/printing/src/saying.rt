@@ -3,10 +3,12 @@ use answers::Answer;
 use std::io;
 use stock::{Sums, stock};
 
-// What was called, and its answer, which is made of what the call came to.
-pub fn say<R: Print, A: Into<Answer>>(rt: &R, what: &str, answer: A) -> io::Result<()> {
+// What was called, and its answer, which is made of what the call came to. What was called may be any bytes: `&str`, by which this would be one
+// `println!`, would ask more of a caller.
+pub fn say<R: Print, A: Into<Answer>>(rt: &R, what: &[u8], answer: A) -> io::Result<()> {
     let answer: Answer = answer.into();
-    println!(rt; "{what} {answer}")
+    rt.write_all(what)?;
+    println!(rt; " {answer}")
 }
 
 // The stock of a board.

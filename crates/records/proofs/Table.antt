@@ -19,7 +19,7 @@ use Rattle.rules.specs.Basin.{Station}
 use Rattle.rules.specs.Path.{row_below, path}
 use Rattle.rules.proofs.Path.{below-later}
 use Rattle.records.specs.Records.{rows_of, stations_of}
-use Rattle.records.specs.Table.{GoodRows, below_code, table_of, step_of, path_by, Downhill, OnTable, TableFor, ReservoirsOn}
+use Rattle.records.specs.Table.{below_code, table_of, step_of, path_by, Downhill, TableFor}
 use Rattle.records.proofs.Rows.{rows_are}
 
 -- ---- one step by the table
@@ -37,6 +37,10 @@ next-is t r x e h = rw (step_is t r (omega arith)) (ap (λ (y : ℕ). Some y) e)
 
 pub next-none : (t : List ℕ) (r x : ℕ) → x ≡ get_or t r 0 → 64 ≤ x → None ≡ step_of t r
 next-none t r x e h = rw (step-none t r (omega arith))
+
+-- a table without a row below
+pub none_downhill : Downhill (replicate 64 255)
+none_downhill = record { later = λ r h l. absurd (omega (arith, get_or-replicate {A = ℕ} 64 r 255 0 h)) }
 
 module _ (t : List ℕ) (d : Downhill t) where
   pub downhill-later : Later (step_of t) 64
@@ -64,23 +68,18 @@ module _ (t : List ℕ) (d : Downhill t) where
 
 -- ---- whether a row is on a path
 
-module _ (t : List ℕ) (i k : ℕ) (o : OnTable t i) where
+module _ (t : List ℕ) (d : Downhill t) (i k : ℕ) (h : i < 64) where
   pub on-here : k ≡ i → has k (path_by t i) ≡ true
-  on-here e = rw e (by-self t o.downhill i o.on)
+  on-here e = rw e (by-self t d i h)
 
   pub on-end : step_of t i ≡ None → (k ≡ i → ⊥) → has k (path_by t i) ≡ false
-  on-end b ne = rw (by_end t o.downhill i o.on b) (has-single k i ne)
+  on-end b ne = rw (by_end t d i h b) (has-single k i ne)
 
-  module _ (q : ℕ) (b : step_of t i ≡ Some q) where
-    pub on_below : (k ≡ i → ⊥) → has k (path_by t i) ≡ has k (path_by t q)
-    on_below ne = rw (by_row t o.downhill i q o.on b).0 (has_other k i (path_by t q) ne)
+  pub on_below : (q : ℕ) → step_of t i ≡ Some q → (k ≡ i → ⊥) → has k (path_by t i) ≡ has k (path_by t q)
+  on_below q b ne = rw (by_row t d i q h b).0 (has_other k i (path_by t q) ne)
 
-    -- the walk goes on further down
-    pub walk-on : (i < q) × OnTable t q
-    walk-on = let w = by_row t o.downhill i q o.on b in (w.1, record { downhill = o.downhill; on = w.2 })
-
--- what a walk along a path goes by
-pub ruleset paths = (on-here, on-end, on_below, walk-on)
+-- what a walk along a path goes by: the last says that it goes on further down
+pub ruleset paths = (on-here, on-end, on_below, downhill-later)
 
 -- ---- the table of a list of stations
 
@@ -145,11 +144,8 @@ module _ (st t : List ℕ) (k : TableFor st t) where
   few_rows : length (stations_of st) ≤ 64
   few_rows = let n = rows_are st in omega (arith, k.few)
 
-  pub reservoirs-on : (rs : List ℕ) → GoodRows st rs → ReservoirsOn t rs
-  reservoirs-on rs g = record {
-    downhill = subst Downhill (sym k.table) (table-downhill (stations_of st) few_rows);
-    row_in = λ v h. omega (arith, g.row_in v h, k.few);
-  }
+  pub for_downhill : Downhill t
+  for_downhill = subst Downhill (sym k.table) (table-downhill (stations_of st) few_rows)
 
   -- a walk by the table is a walk by the rules
   pub walk_is : (r i : ℕ) → r < rows_of st → has i (path_by t r) ≡ has i (path (stations_of st) r)

@@ -24,14 +24,9 @@ step_of t r = cond (ltb (get_or t r 0) 64) (Some (get_or t r 0)) None
 unfoldable pub path_by : List ℕ → ℕ → List ℕ
 path_by t r = follow (step_of t) 64 r
 
--- every row below is a later row
+-- every row below is a later row, as a `RowsBelow` keeps it
 pub record Downhill (t : List ℕ) : Type 0 where
   pub later : (r : ℕ) → r < 64 → get_or t r 0 < 64 → r < get_or t r 0
-
--- a row of such a table
-pub record OnTable (t : List ℕ) (r : ℕ) : Type 0 where
-  pub downhill : Downhill t
-  pub on : r < 64
 
 -- t is the table of a body of stations
 pub record TableFor (st t : List ℕ) : Type 0 where
@@ -42,9 +37,8 @@ pub record TableFor (st t : List ℕ) : Type 0 where
 pub record GoodRows (st rs : List ℕ) : Type 0 where
   pub row_in : (v : ℕ) → v < reservoir_count rs → (reservoir_record rs v).row < rows_of st
 
--- each reservoir of a body stands at a row of the table
-pub record ReservoirsOn (t rs : List ℕ) : Type 0 where
-  pub downhill : Downhill t
+-- each reservoir of a body stands at a row of a table
+pub record ReservoirsOn (rs : List ℕ) : Type 0 where
   pub row_in : (v : ℕ) → v < reservoir_count rs → (reservoir_record rs v).row < 64
 
 -- ---- patterns

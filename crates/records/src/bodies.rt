@@ -6,7 +6,8 @@ ghost use Rattle.records.specs.Bodies.{BodiesOf};
 use places::report::Shape;
 use sections::Section;
 
-// The records of each section where they stand in the caller's bytes, nothing copied.
+// The records of each section where they stand in the caller's bytes, nothing copied. Their counts have no bound in the type: the check reads the
+// bodies before a file is accepted. What needs the bounds asks for them: `shape`, and the judgements of boards and lists.
 #[derive(Clone, Copy)]
 pub struct Bodies<'a> {
     pub stations: &'a [u8],
@@ -28,7 +29,7 @@ impl<'a> Bodies<'a> {
     }
 
     // How many stations there are, which is how many rows. Each body has a count of its own, by the bytes of its records: one function for the
-    // four would be told a body and a number.
+    // four would be told a body and a number. What is lent one body alone divides its length itself.
     pub fn rows(&self) -> usize
         ensures { result ≡ rows_of self.now.stations.now }
     {

@@ -44,7 +44,7 @@ pub fn area_at(reservoirs: &[u8], v: usize, k: usize) -> u32
     le32(reservoirs, 68 * v + 16 + 8 * k)
 }
 
-// The depth that evaporates in month m.
+// The depth that evaporates in month m. A month is a number in range wherever a rule is of one, as at the places of a board.
 #[tactic(auto, unfolding(crate::specs::Records::depth_at))]
 pub fn depth_at(reservoirs: &[u8], v: usize, m: usize) -> u16
     requires { (v < reservoir_count reservoirs.now) × (m < 12) }

@@ -39,8 +39,8 @@ pub fn kind_byte(rights: &[u8], i: usize) -> u8
     rights[76 * i + 8]
 }
 
-// The kind that a byte stands for. Any byte has one, so that a record can be read before its byte is judged: the rules of the file
-// let no byte through but 1 to 4.
+// The kind that a byte stands for. Any byte has one, so that what reads a record by its place need not be told that its byte was judged: the rules
+// of the file let no byte through but 1 to 4.
 impl From<u8> for Kind {
     ghost from_gives = { λ byte kind. kind ≡ kind_named byte };
 

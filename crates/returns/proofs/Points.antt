@@ -19,7 +19,7 @@ use Rattle.rules.specs.River.{Level, along, returned}
 use Rattle.rules.specs.Returns.{shares, deep_loss, Part, lagged, returned_at, lost_deep}
 use Rattle.rules.proofs.Splits.{deep-le}
 use Rattle.records.specs.Records.{return_row, return_percent}
-use Rattle.records.specs.Table.{path_by}
+use Rattle.records.specs.Table.{path_by, Downhill}
 use Rattle.river.specs.Arrays.{levels_of, CanReturn, Walked, RiverOk}
 use Rattle.river.proofs.Table.{by_in}
 use Rattle.river.proofs.Levels.{change-idle, returned-read, returned-zero}
@@ -52,7 +52,7 @@ lost-more pattern qs q = sum-append (λ (x : Part). deep_loss x.amount pattern) 
 -- ---- sums of percents
 
 -- the sum with the percent of one more point, and what of the rest it takes
-module _ {t : List ℕ} {pa : List (List ℕ)} {ri : List ℕ} {back : Return} {f a bd : List ℕ} (o : CanGive t pa ri back f a bd)
+module _ {pa : List (List ℕ)} {ri : List ℕ} {back : Return} {f a bd : List ℕ} (o : CanGive pa ri back f a bd)
     (k c p : ℕ) (on : k < back.points) (ec : c ≡ points_up_to ri back.right k) (ep : p ≡ return_percent ri back.right k) where
   pub percents_in : c + p ≤ 100
   percents_in = omega (arith, ep, o.points-ok.percents, total-more (return_percent ri back.right) k c ec, sum_to-rises (return_percent ri back.right) (k + 1) back.points (omega arith))
@@ -76,12 +76,12 @@ lagged-is pattern s q = refl
 
 -- ---- what one put back does to each row
 
-module _ (t f a : List ℕ) (d row : ℕ) (o : RiverOk t f a (roomy + roomy)) (h : row < 64) (m : d ≤ roomy) where
+module _ (t : List ℕ) (down : Downhill t) (f a : List ℕ) (d row : ℕ) (o : RiverOk f a (roomy + roomy)) (h : row < 64) (m : d ≤ roomy) where
   pub can-return : CanReturn t row d f a
   can-return = record {
-    row-ok = record { downhill = o.downhill; on = h };
-    flows = record { fits = λ k e. omega (arith, o.room k (by_in t o.downhill row h k e)) };
-    availables = record { fits = λ k e. omega (arith, o.room k (by_in t o.downhill row h k e), o.within k (by_in t o.downhill row h k e)) };
+    on = h;
+    flows = record { fits = λ k e. omega (arith, o.room k (by_in t down row h k e)) };
+    availables = record { fits = λ k e. omega (arith, o.room k (by_in t down row h k e), o.within k (by_in t down row h k e)) };
   }
 
 module _ (f a : List ℕ) (p : List ℕ) (d : ℕ) where
@@ -113,9 +113,8 @@ module _ (t pattern ri : List ℕ) (i rest : ℕ) (f a bd : List ℕ) where
 
   -- the river and the board as the points so far have left them
   module _ (k : ℕ) (f₁ a₁ bd₁ : List ℕ) (deep : ℕ) (w : Gave t pattern ri i k rest f a bd f₁ a₁ bd₁ deep) (few : k ≤ 4) where
-    pub river-after : RiverOk t f a roomy → RiverOk t f₁ a₁ (roomy + roomy)
+    pub river-after : RiverOk f a roomy → RiverOk f₁ a₁ (roomy + roomy)
     river-after o = record {
-      downhill = o.downhill;
       room = λ x l. omega (arith, w.grown x l, o.room x l);
       within = w.within;
     }

@@ -1,14 +1,15 @@
 -- Shares by their running sums of percents, one turn of the split, and its end. Assumes nothing.
-use mathlib.Core.List.{List, [], ◌∷◌, ◌++◌}
+use mathlib.Core.List.{List, [], ◌∷◌}
 use mathlib.Core.Path.{◌≡◌, refl, sym, ap, ◌∙◌}
 use Prim.Native.Nat.{ℕ, zero, suc, ◌+◌, ◌-◌, ◌*◌, ◌/◌, ◌≤◌, ◌<◌}
 use native.Mathlib.Nat.{mul-le-mul_left}
 use native.Mathlib.Omega.{arith}
 use native.Mathlib.Decide.{dec_lt}
-use lib.ListN.{length, get_or, set, take, drop, get_or-append}
-use lib.Seq.{get_or-set_same, get_or-set_other, length-take-le, get_or-take, get_or-drop}
-use Rattle.std.proofs.lemmas.List.{get_or-append_right}
+use borrow.Rule.Slice.PartMut.{put_mid}
+use lib.ListN.{length, get_or, set, length-set, take, drop}
+use lib.Seq.{get_or-set_same, get_or-set_other, get_or-take, get_or-drop}
 use Rattle.general.specs.Sums.{sum, sum_to, up_to}
+use Rattle.general.proofs.Parts.{over-length, over-in, over-before, over-after, put_mid-over}
 use Rattle.general.proofs.Sums.{sum_to-front, sum_to-list, at-le-sum, up_to-le, sum_to-rises}
 use Rattle.general.proofs.Tables.{tab-at}
 use Rattle.general.proofs.Tests.{by_eqb}
@@ -112,6 +113,7 @@ module _ (pattern : List ℕ) (a at : ℕ) (l : List ℕ) where
         let f : k + 1 ≡ suc k = omega arith in
         let d : next - before ≡ get_or (shares a pattern) (suc k) 0 = rw (eb, en, f) (sym (next-share pattern sums s a k n)) in
         record {
+          size = length-set l' i v ∙ w.size;
           each = λ j h. by_eqb j k (λ _. get_or (set l' i v) (at + j) 0 ≡ get_or l (at + j) 0 + get_or (shares a pattern) (suc j) 0)
               (λ e. rw (e, ← ei) (get_or-set_same l' i v 0 m ∙ omega (arith, d, ap (λ (y : ℕ). get_or l y 0) ei, ap (λ (y : ℕ). get_or l' y 0) ei, w.over (at + k) (omega arith))))
               (λ e. get_or-set_other l' i (at + j) v 0 (λ z. e (omega arith)) ∙ w.each j (omega arith));
@@ -123,7 +125,7 @@ module _ (pattern : List ℕ) (a at : ℕ) (l : List ℕ) where
 
     module _ (m : k ≤ 11) (same : get_or sums k 0 ≡ get_or sums 11 0) where
       lagged-rest : Lagged pattern a at 11 l l'
-      lagged-rest = record { each = λ j h. pick j h (dec_lt j k); under = w.under; over = λ j h. w.over j (omega arith) }
+      lagged-rest = record { size = w.size; each = λ j h. pick j h (dec_lt j k); under = w.under; over = λ j h. w.over j (omega arith) }
         where
           pick : (j : ℕ) → j < 11 → Dec (j < k) → get_or l' (at + j) 0 ≡ get_or l (at + j) 0 + get_or (shares a pattern) (suc j) 0
           pick j h (yes y) = w.each j y
@@ -142,48 +144,21 @@ split-le pattern a at l l' x h w = (omega (arith, w.at_once, share-le a pattern 
 
 -- ---- the dues of a row, as a part of the board
 
-module _ (pattern : List ℕ) (a at : ℕ) (bd : List ℕ) (fit : at + 11 ≤ length bd) where
-  -- the board with the part in its place
-  placed : List ℕ → List ℕ
-  placed part = take at bd ++ (part ++ drop 11 (drop at bd))
-
-  front : length (take at bd) ≡ at
-  front = length-take-le at bd (omega arith)
-
-  placed-in : (part : List ℕ) (j : ℕ) → length part ≡ 11 → j < 11 → get_or (placed part) (at + j) 0 ≡ get_or part j 0
-  unfolding placed
-  placed-in part j e h =
-      let i : at + j - at ≡ j = omega arith in
-      get_or-append_right (take at bd) (part ++ drop 11 (drop at bd)) at (at + j) 0 front (omega arith)
-      ∙ ap (λ (k : ℕ). get_or (part ++ drop 11 (drop at bd)) k 0) i
-      ∙ get_or-append part (drop 11 (drop at bd)) 0 j (omega arith)
-
-  placed-under : (part : List ℕ) (j : ℕ) → j < at → get_or (placed part) j 0 ≡ get_or bd j 0
-  unfolding placed
-  placed-under part j h = get_or-append (take at bd) (part ++ drop 11 (drop at bd)) 0 j (omega (arith, front)) ∙ get_or-take at bd j 0 h
-
-  placed-over : (part : List ℕ) (j : ℕ) → length part ≡ 11 → at + 11 ≤ j → get_or (placed part) j 0 ≡ get_or bd j 0
-  unfolding placed
-  placed-over part j e h =
-      let i : at + (11 + (j - at - 11)) ≡ j = omega arith in
-      get_or-append_right (take at bd) (part ++ drop 11 (drop at bd)) at j 0 front (omega arith)
-      ∙ get_or-append_right part (drop 11 (drop at bd)) 11 (j - at) 0 e (omega arith)
-      ∙ get_or-drop 11 (drop at bd) (j - at - 11) 0
-      ∙ get_or-drop at bd (11 + (j - at - 11)) 0
-      ∙ ap (λ (k : ℕ). get_or bd k 0) i
-
-  pub split-placed : (from n : ℕ) (part' : List ℕ) {x : SplitPart} → from ≡ at → n ≡ 11 → length part' ≡ 11
-      → SplitUp pattern a 0 (take n (drop from bd)) part' x → SplitUp pattern a at bd (take from bd ++ (part' ++ drop n (drop from bd))) x
-  unfolding placed
-  split-placed from n part' {x} ef en e w = rw (ef, en) (record {
+module _ (pattern : List ℕ) (a at k : ℕ) (bd dues : List ℕ) (fit : at + 11 ≤ length bd) (part : k ≡ 11) (long : length dues ≡ 11) where
+  pub split-placed : {x : SplitPart} → SplitUp pattern a 0 (take k (drop at bd)) dues x → SplitUp pattern a at bd (put_mid at k bd dues) x
+  split-placed {x} w = rw (put_mid-over bd at k dues (omega arith)) (record {
     at_once = w.at_once;
     deep = w.deep;
     later = record {
-      each = λ j h. let i : 0 + j ≡ j = omega arith in
-          placed-in part' j e h ∙ sym (ap (λ (k : ℕ). get_or part' k 0) i) ∙ w.later.each j h ∙ ap (λ (y : ℕ). y + get_or (shares a pattern) (suc j) 0)
-          (ap (λ (k : ℕ). get_or (take n (drop from bd)) k 0) i ∙ ap (λ (l : List ℕ). get_or l j 0) (rw (ef, en)) ∙ get_or-take 11 (drop at bd) j 0 h ∙ get_or-drop at bd j 0);
-      under = λ j h. placed-under part' j h;
-      over = λ j h. placed-over part' j e h;
+      size = over-length bd at dues (omega arith);
+      each = λ j h.
+          let i : 0 + j ≡ j = omega arith in
+          over-in bd at dues j (omega arith) (omega arith)
+          ∙ sym (ap (λ (x : ℕ). get_or dues x 0) i)
+          ∙ w.later.each j h
+          ∙ ap (λ (y : ℕ). y + get_or (shares a pattern) (suc j) 0) (ap (λ (x : ℕ). get_or (take k (drop at bd)) x 0) i ∙ get_or-take k (drop at bd) j 0 (omega arith) ∙ get_or-drop at bd j 0);
+      under = λ j h. over-before bd at dues j (omega arith) h;
+      over = λ j h. over-after bd at dues j (omega arith) (omega arith);
     };
   })
 
@@ -192,5 +167,5 @@ pub split-nothing : (pattern : List ℕ) (a at : ℕ) (l : List ℕ) (x : SplitP
 split-nothing pattern a at l x h e eo ed = record {
   at_once = omega (arith, eo, e, share-le a pattern 0 h);
   deep = omega (arith, ed, e, deep-le a pattern);
-  later = record { each = λ j i. omega (arith, e, share-le a pattern (suc j) h); under = λ j i. refl; over = λ j i. refl };
+  later = record { size = refl; each = λ j i. omega (arith, e, share-le a pattern (suc j) h); under = λ j i. refl; over = λ j i. refl };
 }

@@ -1,7 +1,7 @@
 -- What the split of a return asks of the dues, and what it leaves.
 use Rattle.rules.specs.Accepted.{GoodPattern, most_amount}
 use Rattle.places.specs.Board.{roomy, Roomy}
-use Rattle.std.specs.Prelude.{List, ◌≡◌, ℕ, suc, ◌+◌, ◌*◌, ◌≤◌, ◌<◌, get_or}
+use Rattle.std.specs.Prelude.{List, ◌≡◌, ℕ, suc, ◌+◌, ◌*◌, ◌≤◌, ◌<◌, length, get_or}
 use Rattle.rules.specs.Returns.{shares, deep_loss}
 use Rattle.records.specs.Table.{sums_of}
 use Rattle.returns.specs.declared.split.SplitPart.{SplitPart}
@@ -19,6 +19,7 @@ pub record CanSplit (sums : List ℕ) (a : ℕ) (l : List ℕ) : Type 0 where
 
 -- from l to l' the k places from at on have grown by the shares of months 1, 2, ..
 pub record Lagged (pattern : List ℕ) (a at k : ℕ) (l l' : List ℕ) : Type 0 where
+  pub size : length l' ≡ length l
   pub each : (j : ℕ) → j < k → get_or l' (at + j) 0 ≡ get_or l (at + j) 0 + get_or (shares a pattern) (suc j) 0
   pub under : (j : ℕ) → j < at → get_or l' j 0 ≡ get_or l j 0
   pub over : (j : ℕ) → at + k ≤ j → get_or l' j 0 ≡ get_or l j 0

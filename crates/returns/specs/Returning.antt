@@ -39,10 +39,10 @@ pub record PointsOk (pa : List (List ℕ)) (ri : List ℕ) (i n which : ℕ) : T
   pub known : 0 < n → which < 16
   pub by_sums : 0 < n → (pattern : List ℕ) × Sums pattern (get_or pa which [])
 
-pub record CanGive (t : List ℕ) (pa : List (List ℕ)) (ri : List ℕ) (back : Return) (f a bd : List ℕ) : Type 0 where
+pub record CanGive (pa : List (List ℕ)) (ri : List ℕ) (back : Return) (f a bd : List ℕ) : Type 0 where
   pub points-ok : PointsOk pa ri back.right back.points back.pattern
   pub small : back.amount ≤ most_amount
-  pub river : RiverOk t f a roomy
+  pub river : RiverOk f a roomy
   pub board : Roomy bd roomy
 
 -- ---- what is left: f, a, bd before, f', a', bd' after the first n points, and what went deep; the levels however many rows h are asked after

@@ -7,15 +7,16 @@ ghost use Rattle.returns.specs.Returning.{CanGive, GaveBy};
 
 use crate::split::{percent_of, split};
 use places::board::BOARD_LENGTH;
+use records::network::RowsBelow;
 use records::rights::{return_percent, return_row};
 use river::River;
 use river::setting::Setting;
 
 // A share goes back to the river along the path of its row. A share of nothing is no work.
 #[tactic(auto, using(crate::proofs::Points::put_nothing))]
-fn give_share(below: &[u8; 64], river: &mut River, row: usize, share: u64)
-    requires { CanReturn below.now row share river.old.flow river.old.available }
-    ensures { Walked (returned share) (path_by below.now row) river.old.flow river.old.available river.new.flow river.new.available }
+fn give_share(below: &RowsBelow, river: &mut River, row: usize, share: u64)
+    requires { CanReturn below.now.rows row share river.old.flow river.old.available }
+    ensures { Walked (returned share) (path_by below.now.rows row) river.old.flow river.old.available river.new.flow river.new.available }
 {
     if share == 0 {
         return;
@@ -34,7 +35,7 @@ pub struct Return {
 
 // At each point the share of this month goes back to the river along the point's path; later shares are added to the dues; what
 // goes deep of each point's part is summed. The patterns are passed by value, a copy that those who return nothing do not pay for. The points
-// go by index: a point is two bytes of the right's record, and the percents add up from point to point.
+// go by number: each is read off the record by its number, as the definitions read it, and the percents add up from point to point.
 fn give_points(
     setting: &Setting,
     patterns: [[u8; 12]; 16],
@@ -42,8 +43,8 @@ fn give_points(
     river: &mut River,
     board: &mut [u64; BOARD_LENGTH],
 ) -> u64
-    requires { let s = setting.now in CanGive s.below.now patterns s.bodies.now.rights.now back river.old.flow river.old.available board.old × (0 < back.points) }
-    ensures { let s = setting.now in GaveBy s.below.now (get_or patterns back.pattern []) s.bodies.now.rights.now back river.old.flow river.old.available board.old river.new.flow river.new.available board.new result }
+    requires { let s = setting.now in CanGive patterns s.bodies.now.rights.now back river.old.flow river.old.available board.old × (0 < back.points) }
+    ensures { let s = setting.now in GaveBy s.below.now.rows (get_or patterns back.pattern []) s.bodies.now.rights.now back river.old.flow river.old.available board.old river.new.flow river.new.available board.new result }
 {
     let below = setting.below;
     let rights = setting.bodies.rights;
@@ -75,8 +76,8 @@ pub fn give_returns(
     river: &mut River,
     board: &mut [u64; BOARD_LENGTH],
 ) -> u64
-    requires { let s = setting.now in CanGive s.below.now s.sums.now s.bodies.now.rights.now back river.old.flow river.old.available board.old }
-    ensures { let s = setting.now in GaveBy s.below.now (get_or s.sums.now back.pattern []) s.bodies.now.rights.now back river.old.flow river.old.available board.old river.new.flow river.new.available board.new result }
+    requires { let s = setting.now in CanGive s.sums.now s.bodies.now.rights.now back river.old.flow river.old.available board.old }
+    ensures { let s = setting.now in GaveBy s.below.now.rows (get_or s.sums.now back.pattern []) s.bodies.now.rights.now back river.old.flow river.old.available board.old river.new.flow river.new.available board.new result }
 {
     if back.points == 0 {
         return 0;

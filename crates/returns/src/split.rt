@@ -1,10 +1,10 @@
 // The split of a return over the twelve months of a delay pattern.
-ghost use Rattle.std.specs.Prelude.{List, ◌≡◌, ℕ, ◌*◌, ◌/◌, ◌≤◌, ◌<◌, length};
+ghost use Rattle.std.specs.Prelude.{List, ◌≡◌, ℕ, ◌+◌, ◌*◌, ◌/◌, ◌≤◌, ◌<◌, length};
 ghost use Rattle.rules.specs.Accepted.{most_amount};
 ghost use Rattle.places.specs.Board.{dues_of};
 ghost use Rattle.returns.specs.Dues.{Sums, CanSplit, SplitUp};
 
-use places::board::{BOARD_LENGTH, MONTHS_DUE, dues_of};
+use places::board::{MONTHS_DUE, dues_of};
 
 // What of an amount is in the river at once, and what goes deep.
 #[derive(Clone, Copy)]
@@ -27,8 +27,7 @@ pub fn percent_of(a: u64, c: u64) -> u64
 
 // Splits a by the running sums of a pattern. The shares of months 1 to 11 are added to the dues of a row, up to the pattern's last month: the
 // sums no longer rise from there on. What is left of a then goes deep. The dues are a slice, of eleven at least: as an array they would be a
-// loan within the loan of the board's part, and the proof that both are put back did not close. They go by index, since each stands beside two
-// sums.
+// loan within the loan of the board's part, and the proof that both are put back did not close.
 #[tactic(auto, using(crate::proofs::Shares::sums_most, crate::proofs::Shares::floors_rise, crate::proofs::Shares::floor_le))]
 pub fn split_months(sums: &[u8; 12], a: u64, dues: &mut [u64]) -> SplitPart
     requires { (MONTHS_DUE ≤ length dues.old) × CanSplit sums.now a dues.old }
@@ -37,12 +36,12 @@ pub fn split_months(sums: &[u8; 12], a: u64, dues: &mut [u64]) -> SplitPart
     let whole = sums[11];
     let at_once = percent_of(a, u64::from(sums[0]));
     let mut before = at_once;
-    for k in 0..MONTHS_DUE {
+    for (k, due) in dues[..MONTHS_DUE].iter_mut().enumerate() {
         if sums[k] == whole {
             break;
         }
         let next = percent_of(a, u64::from(sums[k + 1]));
-        dues[k] += next - before;
+        *due += next - before;
         before = next;
     }
     SplitPart {
@@ -51,9 +50,10 @@ pub fn split_months(sums: &[u8; 12], a: u64, dues: &mut [u64]) -> SplitPart
     }
 }
 
-// The same to the dues of a row, the part of the board that is theirs. Where nothing returns there is nothing to do.
-pub fn split(sums: &[u8; 12], a: u64, row: usize, board: &mut [u64; BOARD_LENGTH]) -> SplitPart
-    requires { (row < 64) × CanSplit sums.now a board.old }
+// The same to the dues of a row, the part of the board that is theirs. Where nothing returns there is nothing to do. The board is any list that is
+// long enough, as it was: an array of 1226 would ask more of a caller.
+pub fn split(sums: &[u8; 12], a: u64, row: usize, board: &mut [u64]) -> SplitPart
+    requires { (row < 64) × (dues_of row + MONTHS_DUE ≤ length board.old) × CanSplit sums.now a board.old }
     ensures { (pattern : List ℕ) → Sums pattern sums.now → SplitUp pattern a (dues_of row) board.old board.new result }
 {
     if a == 0 {

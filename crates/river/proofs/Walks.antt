@@ -14,42 +14,42 @@ use Rattle.general.proofs.Tests.{absurd-bool, by_eqb}
 use Rattle.rules.specs.Path.{until_row}
 use Rattle.rules.specs.River.{Level, diverted, released, returned}
 use Rattle.rules.proofs.Path.{until_none, until_stop, until-on}
-use Rattle.records.specs.Table.{step_of, path_by, OnTable}
+use Rattle.records.specs.Table.{step_of, path_by, Downhill}
 use Rattle.records.proofs.Table as table
-use Rattle.records.proofs.Table.{by_end, by-self}
+use Rattle.records.proofs.Table.{downhill-later, by_end, by-self}
 use Rattle.river.specs.declared.Seen.{Seen}
 use Rattle.river.specs.declared.Seen.TheVariants.{Called, Low}
-use Rattle.river.specs.Arrays.{level, row_level, seen_on, Enough, Room, CanRelease, CanLook, CanWalk, Changed, Walked, Raised}
+use Rattle.river.specs.Arrays.{level, row_level, seen_on, Enough, Room, CanRelease, CanWalk, Changed, Walked, Raised}
 use Rattle.river.proofs.Table.{by-off}
 use Rattle.river.proofs.Levels.{change-made, walk-on, walk-done, change-nothing, diverted-level, returned-level, released-level, flow-here, flow-other, room-on}
 
 -- ---- what holds at the row itself
 
-module _ (t : List ℕ) (i : ℕ) (o : OnTable t i) where
+module _ (t : List ℕ) (down : Downhill t) (i : ℕ) (h : i < 64) where
   pub room_self : (d : ℕ) (l : List ℕ) → Room d (path_by t i) l → get_or l i 0 + d < 18446744073709551616
-  room_self d l e = e.fits i (by-self t o.downhill i o.on)
+  room_self d l e = e.fits i (by-self t down i h)
 
   -- the path goes on at the row below, and does not come back
   by_row : (q : ℕ) → step_of t i ≡ Some q → (path_by t i ≡ i ∷ path_by t q) × (has i (path_by t q) ≡ false)
-  by_row q b = let w = table.by_row t o.downhill i q o.on b in (w.0, by-off t o.downhill i q w.2 w.1)
+  by_row q b = let w = table.by_row t down i q h b in (w.0, by-off t down i q w.2 w.1)
 
 -- ---- a walk that changes flow and available flow at each row: x and y are what the change made at row i
 
-module _ {can : ℕ → Type 0} {t : List ℕ} {i : ℕ} {f a : List ℕ} (o : CanWalk can t i f a) where
+module _ {can : ℕ → Type 0} {t : List ℕ} {i : ℕ} {f a : List ℕ} (down : Downhill t) (o : CanWalk can t i f a) where
   pub can-flow : can (get_or f i 0)
-  can-flow = o.flows i (by-self t o.row-ok.downhill i o.row-ok.on)
+  can-flow = o.flows i (by-self t down i o.on)
 
   pub can-available : can (get_or a i 0)
-  can-available = o.availables i (by-self t o.row-ok.downhill i o.row-ok.on)
+  can-available = o.availables i (by-self t down i o.on)
 
   module _ (x y q : ℕ) (b : step_of t i ≡ Some q) where
     -- a row further down is not this one
     further : (k : ℕ) → has k (path_by t q) ≡ true → (k ≢ i) × (has k (path_by t i) ≡ true)
-    further k h = let w = by_row t i o.row-ok q b in (λ z. absurd-bool h (rw z w.1), rw w.0 (has-tail k i (path_by t q) h))
+    further k h = let w = by_row t down i o.on q b in (λ z. absurd-bool h (rw z w.1), rw w.0 (has-tail k i (path_by t q) h))
 
     pub next-walk : CanWalk can t q (set f i x) (set a i y)
     next-walk = record {
-      row-ok = (table.walk-on t i q o.row-ok q b).1;
+      on = (downhill-later t down i q o.on b).1;
       flows = λ k h. let w = further k h in rw (get_or-set_other f i k x 0 w.0) (o.flows k w.1);
       availables = λ k h. let w = further k h in rw (get_or-set_other a i k y 0 w.0) (o.availables k w.1);
     }
@@ -77,10 +77,10 @@ module _ {can : ℕ → Type 0} {t : List ℕ} {i : ℕ} {f a : List ℕ} (o : C
     }
 
     pub changed-row : i < length f → i < length a → (q : ℕ) (f' a' : List ℕ) → step_of t i ≡ Some q → Changed made (path_by t q) (set f i x) (set a i y) f' a' → Changed made (path_by t i) f a f' a'
-    changed-row hf ha q f' a' b w = let r = by_row t i o.row-ok q b in rw r.0 (changed-on hf ha (path_by t q) f' a' r.1 w)
+    changed-row hf ha q f' a' b w = let r = by_row t down i o.on q b in rw r.0 (changed-on hf ha (path_by t q) f' a' r.1 w)
 
     pub changed-end : i < length f → i < length a → step_of t i ≡ None → Changed made (path_by t i) f a (set f i x) (set a i y)
-    changed-end hf ha b = rw (by_end t o.row-ok.downhill i o.row-ok.on b) (changed-on hf ha [] _ _ (has-none i) (record {
+    changed-end hf ha b = rw (by_end t down i o.on b) (changed-on hf ha [] _ _ (has-none i) (record {
       flow_on = λ k h. absurd-bool h (has-none k);
       available_on = λ k h. absurd-bool h (has-none k);
       flow_off = λ k h. refl;
@@ -106,14 +106,14 @@ module _ {made : ℕ → ℕ → Type 0} {p f a f' a' : List ℕ} (w : Changed m
 
 -- ---- what passes on to the row below
 
-module _ (t : List ℕ) (i q : ℕ) (b : step_of t i ≡ Some q) (d x : ℕ) (f : List ℕ) where
+module _ (t : List ℕ) (down : Downhill t) (i q : ℕ) (b : step_of t i ≡ Some q) (d x : ℕ) (f : List ℕ) where
   pub next-release : CanRelease t i d f → CanRelease t q d (set f i x)
   next-release o =
-      let w = by_row t i o.row-ok q b in
+      let w = by_row t down i o.on q b in
       let p = w.0 in
       let m = o.flows in
       record {
-        row-ok = (table.walk-on t i q o.row-ok q b).1;
+        on = (downhill-later t down i q o.on b).1;
         flows = room-on d i x (path_by t q) f w.1 (rw p at m);
       }
 
@@ -127,7 +127,7 @@ has-until i w (x ∷ p) e = by_eqb i x (λ _. has i (until_row w (x ∷ p)) ≡ 
     (λ y. rw (until_stop w x p y) (has-none i))
     (λ y. rw (until-on w x p y, has_other i x (until_row w p) z) (has-until i w p (sym (has_other i x p z) ∙ e))))
 
-module _ (t : List ℕ) (i d stop : ℕ) (f : List ℕ) (h : i < length f) (o : CanRelease t i d f) where
+module _ (t : List ℕ) (down : Downhill t) (i d stop : ℕ) (f : List ℕ) (h : i < length f) (o : CanRelease t i d f) where
   released-here : (a : List ℕ) → row_level (set f i (get_or f i 0 + d)) a i ≡ released d (row_level f a i)
   released-here a = flow-here f a i _ h ∙ released-level (get_or f i 0) (get_or a i 0) d
 
@@ -135,7 +135,7 @@ module _ (t : List ℕ) (i d stop : ℕ) (f : List ℕ) (h : i < length f) (o : 
       → Raised (released d) (until_row stop (path_by t q)) (set f i (get_or f i 0 + d)) f'
       → Raised (released d) (until_row stop (path_by t i)) f f'
   release-row q f' b ne e =
-      let w = by_row t i o.row-ok q b in
+      let w = by_row t down i o.on q b in
       record {
         levels = λ n a. rw (w.0, until-on stop i (path_by t q) ne)
             (walk-on n i (released d) f a _ a (released-here a) (flow-other f a i _) (until_row stop (path_by t q)) f' a (has-until i stop (path_by t q) w.1) (e.levels n a));
@@ -143,42 +143,48 @@ module _ (t : List ℕ) (i d stop : ℕ) (f : List ℕ) (h : i < length f) (o : 
 
   pub release-end : step_of t i ≡ None → i ≢ stop → Raised (released d) (until_row stop (path_by t i)) f (set f i (get_or f i 0 + d))
   release-end b ne = record {
-    levels = λ n a. rw (by_end t o.row-ok.downhill i o.row-ok.on b, until-on stop i [] ne, until_none stop) (walk-done n i (released d) f a _ a (released-here a) (flow-other f a i _));
+    levels = λ n a. rw (by_end t down i o.on b, until-on stop i [] ne, until_none stop) (walk-done n i (released d) f a _ a (released-here a) (flow-other f a i _));
   }
 
   pub release_stop : i ≡ stop → Raised (released d) (until_row stop (path_by t i)) f f
   release_stop e = record { levels = λ n a. rw (nothing ((step_of t i)) refl) (change-nothing n (released d) f a) }
     where
       nothing : (x : Option ℕ) → step_of t i ≡ x → until_row stop (path_by t i) ≡ []
-      nothing (Some q) b = rw (by_row t i o.row-ok q b).0 (until_stop stop i (path_by t q) e)
-      nothing None b = rw (by_end t o.row-ok.downhill i o.row-ok.on b) (until_stop stop i [] e)
+      nothing (Some q) b = rw (by_row t down i o.on q b).0 (until_stop stop i (path_by t q) e)
+      nothing None b = rw (by_end t down i o.on b) (until_stop stop i [] e)
+
+-- what a release goes by
+pub ruleset releases = (room_self, release_stop, release-row, release-end, next-release, downhill-later)
 
 -- ---- look
 
-module _ (t : List ℕ) (i low : ℕ) (short : List Bool) (a : List ℕ) (o : CanLook t i low) where
+module _ (t : List ℕ) (down : Downhill t) (i low : ℕ) (short : List Bool) (a : List ℕ) (h : i < 64) (l : low < 64) where
   pub look_called : get_or short i false ≡ true → Called i ≡ seen_on short a low (path_by t i)
   unfolding seen_on
   look_called e = go (step_of t i) refl
     where
       go : (x : Option ℕ) → step_of t i ≡ x → Called i ≡ seen_on short a low (path_by t i)
-      go (Some q) b = rw ((by_row t i o.row-ok q b).0, e)
-      go None b = rw (by_end t o.row-ok.downhill i o.row-ok.on b, e)
+      go (Some q) b = rw ((by_row t down i h q b).0, e)
+      go None b = rw (by_end t down i h b, e)
 
   module _ (r : ℕ) (open_row : get_or short i false ≡ false) (e : r ≡ cond (ltb (get_or a i 0) (get_or a low 0)) i low) where
     lower_in : r < 64
     lower_in = rw e (go (ltb (get_or a i 0) (get_or a low 0)))
       where
         go : (c : Bool) → cond c i low < 64
-        go true = o.row-ok.on
-        go false = o.low_on
+        go true = h
+        go false = l
 
     pub look-end : step_of t i ≡ None → Low r ≡ seen_on short a low (path_by t i)
     unfolding seen_on
-    look-end b = rw (by_end t o.row-ok.downhill i o.row-ok.on b, open_row, ← e)
+    look-end b = rw (by_end t down i h b, open_row, ← e)
 
     pub look-on : (q : ℕ) (x : Seen) → step_of t i ≡ Some q → x ≡ seen_on short a r (path_by t q) → x ≡ seen_on short a low (path_by t i)
     unfolding seen_on
-    look-on q x b g = rw ((by_row t i o.row-ok q b).0, open_row, ← e) g
+    look-on q x b g = rw ((by_row t down i h q b).0, open_row, ← e) g
 
-    pub next-look : (q : ℕ) → step_of t i ≡ Some q → CanLook t q r
-    next-look q b = record { row-ok = (table.walk-on t i q o.row-ok q b).1; low_on = lower_in }
+    pub next-look : (q : ℕ) → step_of t i ≡ Some q → (q < 64) × (r < 64)
+    next-look q b = ((downhill-later t down i q h b).1, lower_in)
+
+-- what a look down a path goes by
+pub ruleset looks = (look_called, look-end, look-on, next-look, downhill-later)

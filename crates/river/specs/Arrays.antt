@@ -3,7 +3,7 @@ use Rattle.std.specs.Prelude.{Bool, true, false, cond, List, [], ◌∷◌, ◌�
 use Rattle.general.specs.Tables.{tab}
 use Rattle.general.specs.Tests.{has}
 use Rattle.rules.specs.River.{Level, along}
-use Rattle.records.specs.Table.{path_by, OnTable, Downhill}
+use Rattle.records.specs.Table.{path_by}
 use Rattle.river.specs.declared.Seen.{Seen}
 use Rattle.river.specs.declared.Seen.TheVariants.{Called, Low}
 
@@ -36,34 +36,29 @@ pub record Room (d : ℕ) (p l : List ℕ) : Type 0 where
   pub fits : (k : ℕ) → has k p ≡ true → get_or l k 0 + d < 18446744073709551616
 
 -- the river of a month: available flow at most the flow, and room for more
-pub record RiverOk (t f a : List ℕ) (most : ℕ) : Type 0 where
-  pub downhill : Downhill t
+pub record RiverOk (f a : List ℕ) (most : ℕ) : Type 0 where
   pub room : (w : ℕ) → w < 64 → get_or f w 0 ≤ most
   pub within : (w : ℕ) → w < 64 → get_or a w 0 ≤ get_or f w 0
 
 -- a change may be made of the flow and of the available flow at each row of the path
 pub record CanWalk (can : ℕ → Type 0) (t : List ℕ) (row : ℕ) (f a : List ℕ) : Type 0 where
-  pub row-ok : OnTable t row
+  pub on : row < 64
   pub flows : (k : ℕ) → has k (path_by t row) ≡ true → can (get_or f k 0)
   pub availables : (k : ℕ) → has k (path_by t row) ≡ true → can (get_or a k 0)
 
 pub record CanDivert (t : List ℕ) (row d : ℕ) (f a : List ℕ) : Type 0 where
-  pub row-ok : OnTable t row
+  pub on : row < 64
   pub flows : Enough d (path_by t row) f
   pub availables : Enough d (path_by t row) a
 
 pub record CanReturn (t : List ℕ) (row d : ℕ) (f a : List ℕ) : Type 0 where
-  pub row-ok : OnTable t row
+  pub on : row < 64
   pub flows : Room d (path_by t row) f
   pub availables : Room d (path_by t row) a
 
 pub record CanRelease (t : List ℕ) (row d : ℕ) (f : List ℕ) : Type 0 where
-  pub row-ok : OnTable t row
+  pub on : row < 64
   pub flows : Room d (path_by t row) f
-
-pub record CanLook (t : List ℕ) (row low : ℕ) : Type 0 where
-  pub row-ok : OnTable t row
-  pub low_on : low < 64
 
 -- ---- what a walk leaves: f, a before and f', a' after
 

@@ -17,4 +17,4 @@ pub record SettingOf (b : Basin) (st t rs : List ℕ) (pa : List (List ℕ)) (ri
 
 -- the same of the setting that has them
 abbrev pub Describes : Setting → Basin → Type 0
-Describes s b = SettingOf b s.bodies.now.stations.now s.below.now s.bodies.now.reservoirs.now s.sums.now s.bodies.now.rights.now
+Describes s b = SettingOf b s.bodies.now.stations.now s.below.now.rows s.bodies.now.reservoirs.now s.sums.now s.bodies.now.rights.now

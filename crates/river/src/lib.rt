@@ -7,9 +7,9 @@ ghost use Rattle.std.specs.Prelude.{◌≡◌, cond, ltb, ◌<◌, get_or};
 ghost use Rattle.rules.specs.Path.{until_row};
 ghost use Rattle.rules.specs.River.{diverted, released, returned};
 ghost use Rattle.records.specs.Table.{path_by};
-ghost use Rattle.river.specs.Arrays.{seen_on, CanDivert, CanReturn, CanRelease, CanLook, CanWalk, Changed, Walked, Raised};
+ghost use Rattle.river.specs.Arrays.{seen_on, CanDivert, CanReturn, CanRelease, CanWalk, Changed, Walked, Raised};
 
-use records::network::next_row;
+use records::network::RowsBelow;
 
 pub mod setting;
 
@@ -32,45 +32,45 @@ pub struct River {
 
 impl River {
     // The same change of flow and available flow all along the path.
-    fn walk<F: Fn(u64) -> u64 + Copy>(&mut self, below: &[u8; 64], row: usize, change: F)
-        requires { CanWalk (F.pre change) below.now row self.old.flow self.old.available }
-        ensures { Changed (F.post change) (path_by below.now row) self.old.flow self.old.available self.new.flow self.new.available }
+    fn walk<F: Fn(u64) -> u64 + Copy>(&mut self, below: &RowsBelow, row: usize, change: F)
+        requires { CanWalk (F.pre change) below.now.rows row self.old.flow self.old.available }
+        ensures { Changed (F.post change) (path_by below.now.rows row) self.old.flow self.old.available self.new.flow self.new.available }
     {
         self.flow[row] = change(self.flow[row]);
         self.available[row] = change(self.available[row]);
-        if let Some(next) = next_row(below, row) {
+        if let Some(next) = below.next(row) {
             self.walk(below, next, change);
         }
     }
 
     // d leaves flow and available flow all along the path.
-    pub fn divert(&mut self, below: &[u8; 64], row: usize, d: u64)
-        requires { CanDivert below.now row d self.old.flow self.old.available }
-        ensures { Walked (diverted d) (path_by below.now row) self.old.flow self.old.available self.new.flow self.new.available }
+    pub fn divert(&mut self, below: &RowsBelow, row: usize, d: u64)
+        requires { CanDivert below.now.rows row d self.old.flow self.old.available }
+        ensures { Walked (diverted d) (path_by below.now.rows row) self.old.flow self.old.available self.new.flow self.new.available }
     {
         self.walk(below, row, move |x| x - d);
     }
 
     // d more in flow and available flow all along the path.
-    pub fn put_back(&mut self, below: &[u8; 64], row: usize, d: u64)
-        requires { CanReturn below.now row d self.old.flow self.old.available }
-        ensures { Walked (returned d) (path_by below.now row) self.old.flow self.old.available self.new.flow self.new.available }
+    pub fn put_back(&mut self, below: &RowsBelow, row: usize, d: u64)
+        requires { CanReturn below.now.rows row d self.old.flow self.old.available }
+        ensures { Walked (returned d) (path_by below.now.rows row) self.old.flow self.old.available self.new.flow self.new.available }
     {
         self.walk(below, row, move |x| x + d);
     }
 
     // d more in flow along the path as far as just above the row `stop`. It is not a `walk`, since it changes one list of the two and ends
     // before the path does.
-    #[tactic(auto, using(crate::proofs::Walks::room_self, crate::proofs::Walks::release_stop))]
-    pub fn release(&mut self, below: &[u8; 64], row: usize, stop: usize, d: u64)
-        requires { CanRelease below.now row d self.old.flow }
-        ensures { Raised (released d) (until_row stop (path_by below.now row)) self.old.flow self.new.flow × (self.new.available ≡ self.old.available) }
+    #[tactic(auto, using(crate::proofs::Walks::releases))]
+    pub fn release(&mut self, below: &RowsBelow, row: usize, stop: usize, d: u64)
+        requires { CanRelease below.now.rows row d self.old.flow }
+        ensures { Raised (released d) (until_row stop (path_by below.now.rows row)) self.old.flow self.new.flow × (self.new.available ≡ self.old.available) }
     {
         if row == stop {
             return;
         }
         self.flow[row] += d;
-        if let Some(next) = next_row(below, row) {
+        if let Some(next) = below.next(row) {
             self.release(below, next, stop, d);
         }
     }
@@ -88,16 +88,16 @@ impl River {
     }
 
     // The first row down the path at which a right is short; where there is none, the first row with the lowest available flow, `low` being the lowest so far.
-    #[tactic(auto, using(crate::proofs::Walks::look_called))]
-    pub fn look(&self, below: &[u8; 64], short: &[bool; 64], row: usize, low: usize) -> Seen
-        requires { CanLook below.now row low }
-        ensures { result ≡ seen_on short.now self.now.available low (path_by below.now row) }
+    #[tactic(auto, using(crate::proofs::Walks::looks))]
+    pub fn look(&self, below: &RowsBelow, short: &[bool; 64], row: usize, low: usize) -> Seen
+        requires { (row < 64) × (low < 64) }
+        ensures { result ≡ seen_on short.now self.now.available low (path_by below.now.rows row) }
     {
         if short[row] {
             return Seen::Called(row);
         }
         let lowest = self.lower(row, low);
-        let Some(next) = next_row(below, row) else {
+        let Some(next) = below.next(row) else {
             return Seen::Low(lowest);
         };
         self.look(below, short, next, lowest)

@@ -7,16 +7,22 @@ use std::io;
 use years::run::run_year;
 
 // Whether the book lists a year.
-fn say_listed<R: Print>(rt: &R, what: &str, file: &[u8], book: &[u8], year: u32) -> io::Result<()> {
+fn say_listed<R: Print>(
+    rt: &R,
+    what: &[u8],
+    file: &[u8],
+    book: &[u8],
+    year: u32,
+) -> io::Result<()> {
     say(rt, what, find_year(file, book, year).map(|_| ()))
 }
 
 // Refusals 1, 9 and 10.
 fn look_up<R: Print>(rt: &R, file: &[u8], book: &[u8]) -> io::Result<()> {
-    say_listed(rt, "year, no file:", &file[..0], book, 1889)?;
-    say_listed(rt, "year, no book:", file, &book[..0], 1889)?;
-    say_listed(rt, "year 1888:", file, book, 1888)?;
-    say_listed(rt, "year 1889:", file, book, 1889)
+    say_listed(rt, b"year, no file:", &file[..0], book, 1889)?;
+    say_listed(rt, b"year, no book:", file, &book[..0], 1889)?;
+    say_listed(rt, b"year 1888:", file, book, 1888)?;
+    say_listed(rt, b"year 1889:", file, book, 1889)
 }
 
 // A list that is one number short of twelve reports. Refusals 9 and 10 come before 6, and 6 before 8.
@@ -24,17 +30,17 @@ fn short_lists<R: Print>(rt: &R, file: &[u8], book: &[u8], board: &mut [u64]) ->
     let mut few = [0u64; YEAR_REPORTS - 1];
     say(
         rt,
-        "run of 1888, list of 335:",
+        b"run of 1888, list of 335:",
         run_year(file, book, 1888, board, &mut few),
     )?;
     say(
         rt,
-        "run, no book, list of 335:",
+        b"run, no book, list of 335:",
         run_year(file, &book[..0], 1889, board, &mut few),
     )?;
     say(
         rt,
-        "run of 1890, list of 335:",
+        b"run of 1890, list of 335:",
         run_year(file, book, 1890, board, &mut few),
     )
 }
@@ -49,12 +55,12 @@ fn refused_runs<R: Print>(
 ) -> io::Result<()> {
     say(
         rt,
-        "run of 1890, board of a thirteenth month:",
+        b"run of 1890, board of a thirteenth month:",
         run_year(file, book, 1890, &mut thirteenth(), reports),
     )?;
     say(
         rt,
-        "run of 1890, March over the limit:",
+        b"run of 1890, March over the limit:",
         run_year(file, book, 1890, board, reports),
     )?;
     say_stock(rt, file, board)
@@ -67,7 +73,7 @@ pub fn call<R: Print>(rt: &R, file: &[u8], book: &[u8], board: &mut [u64]) -> io
     refused_runs(rt, file, book, board, &mut reports)?;
     say(
         rt,
-        "run of 1889, from November:",
+        b"run of 1889, from November:",
         run_year(file, book, 1889, board, &mut reports),
     )?;
     say_stock(rt, file, board)

@@ -14,17 +14,17 @@ fn refused<R: Print>(rt: &R, file: &[u8]) -> io::Result<()> {
     let thirteenth = thirteenth();
     say_months(
         rt,
-        "short months, no file:",
+        b"short months, no file:",
         short_months(&file[..0], &thirteenth, 0),
     )?;
     say_months(
         rt,
-        "short months, board of 1225:",
+        b"short months, board of 1225:",
         short_months(file, &thirteenth[1..], 0),
     )?;
     say_months(
         rt,
-        "short months, board of a thirteenth month:",
+        b"short months, board of a thirteenth month:",
         short_months(file, &thirteenth, 0),
     )
 }
@@ -36,19 +36,19 @@ fn wrong_words<R: Print>(rt: &R, file: &[u8]) -> io::Result<()> {
     board[WORDS] = 4096;
     say_months(
         rt,
-        "short months, a bit above September's:",
+        b"short months, a bit above September's:",
         short_months(file, &board, 0),
     )?;
     say(
         rt,
-        "month, a bit above September's:",
+        b"month, a bit above September's:",
         month(file, &SHEET, &mut board, &mut report),
     )?;
     board[WORDS] = 0;
     board[WORDS + RIGHTS] = 1;
     say_months(
         rt,
-        "short months, a word of right 5:",
+        b"short months, a word of right 5:",
         short_months(file, &board, 0),
     )
 }
@@ -72,20 +72,20 @@ pub fn call<R: Print>(rt: &R, file: &[u8], book: &[u8]) -> io::Result<()> {
     let mut reports = [0u64; YEAR_REPORTS];
     say(
         rt,
-        "October of 1889:",
+        b"October of 1889:",
         month(file, &SHEET, &mut board, &mut reports),
     )?;
     count(rt, file, &board, &ALL)?;
     count(rt, file, &board, &NONE)?;
     say(
         rt,
-        "run of 1889, from November:",
+        b"run of 1889, from November:",
         run_year(file, book, 1889, &mut board, &mut reports),
     )?;
     count(rt, file, &board, &ALL)?;
     say(
         rt,
-        "October of 1890:",
+        b"October of 1890:",
         month(file, &SHEET, &mut board, &mut reports),
     )?;
     count(rt, file, &board, &ALL)

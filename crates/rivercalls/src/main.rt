@@ -1,6 +1,7 @@
 // Calls fresh, month and stock on the October basin, with numbers that are turned down and then with good ones, and prints each answer; then
 // the same of years of a book. The good month and the good year come last, so they show that the calls before them changed nothing. Then the
 // short months of October's rights over a year and a month; last the same October by other patterns, with what goes deep.
+// File, book, board and report are lent one by one, as the calls take them, so that each line shows a call as a caller writes it.
 #![tactic(auto)]
 
 ghost use Rattle.std.specs.Prelude.{◌≤◌, length};
@@ -23,7 +24,8 @@ mod seeping;
 // Room for the book of two years.
 const BOOK_ROOM: usize = 4096;
 
-// What can be read of a file, as far as a failure, which the answers to it will show; nothing of one that can't be opened.
+// What can be read of a file, as far as a failure, which the answers to it will show; nothing of one that can't be opened. No reason is told, and
+// what came before the failure is used: `files::read_file` gives that up, and `read_whole` tells the reason besides.
 fn read_file<'a, R: Files>(rt: &R, name: &[u8], buf: &'a mut [u8]) -> &'a [u8]
     ensures { length result.now ≤ length buf.old }
 {
@@ -42,26 +44,26 @@ fn wrong_lengths<R: Print>(
     report: &mut [u64],
 ) -> io::Result<()> {
     let mut short = [0u64; BOARD_LENGTH - 1];
-    say(rt, "fresh, board of 1225:", fresh(file, &mut short))?;
+    say(rt, b"fresh, board of 1225:", fresh(file, &mut short))?;
     say(
         rt,
-        "month, board of 1225:",
+        b"month, board of 1225:",
         month(file, &SHEET, &mut short, report),
     )?;
     say(
         rt,
-        "month, runoff of two rows:",
+        b"month, runoff of two rows:",
         month(file, &SHEET[..2], board, report),
     )?;
     say(
         rt,
-        "month, runoff of four rows:",
+        b"month, runoff of four rows:",
         month(file, &[2000, 700, 300, 0], board, report),
     )?;
     let mut few = [0u64; REPORT - 1];
     say(
         rt,
-        "month, report of 27:",
+        b"month, report of 27:",
         month(file, &SHEET, board, &mut few),
     )
 }
@@ -77,13 +79,13 @@ fn wrong_numbers<R: Print>(
     let mut thirteenth = thirteenth();
     say(
         rt,
-        "month, board of a thirteenth month:",
+        b"month, board of a thirteenth month:",
         month(file, &sheet, &mut thirteenth, report),
     )?;
     say_stock(rt, file, &thirteenth)?;
     say(
         rt,
-        "month, runoff over its limit:",
+        b"month, runoff over its limit:",
         month(file, &sheet, board, report),
     )
 }
@@ -91,11 +93,11 @@ fn wrong_numbers<R: Print>(
 fn call<R: Print>(rt: &R, file: &[u8], book: &[u8]) -> io::Result<()> {
     let mut board = [7u64; BOARD_LENGTH];
     let mut report = [0u64; REPORT];
-    say(rt, "fresh, no file:", fresh(&file[..0], &mut board))?;
-    say(rt, "fresh:", fresh(file, &mut board))?;
+    say(rt, b"fresh, no file:", fresh(&file[..0], &mut board))?;
+    say(rt, b"fresh:", fresh(file, &mut board))?;
     wrong_lengths(rt, file, &mut board, &mut report)?;
     wrong_numbers(rt, file, &mut board, &mut report)?;
-    say(rt, "month:", month(file, &SHEET, &mut board, &mut report))?;
+    say(rt, b"month:", month(file, &SHEET, &mut board, &mut report))?;
     say_stock(rt, file, &board)?;
     booked::call(rt, file, book, &mut board)
 }

@@ -21,12 +21,14 @@ pub const SHAPE: Shape = Shape {
 // The worked October's sheet.
 pub const SHEET: [u32; ROWS] = [2000, 700, 300];
 
-// The numbers of a report, and of the twelve of a year.
+// The numbers of a report, and of the twelve of a year. Both are lengths of arrays, so constants, and a constant can't call `SHAPE.report_end()`, which
+// tells the same.
 pub const REPORT: usize = 4 * RIGHTS + 2 * ROWS + RESERVOIRS + 1;
 
 pub const YEAR_REPORTS: usize = 12 * REPORT;
 
-// The fresh board; zeros where the file is refused.
+// The fresh board; zeros where the file is refused, since that is told by the first call and shown by all later ones. Two lines, as `riverplan` has
+// for the basin of its own.
 pub fn fresh_board(file: &[u8]) -> [u64; BOARD_LENGTH]
     ensures { result ≡ (fresh_of file.now (replicate 1226 0)).board }
 {
@@ -35,7 +37,8 @@ pub fn fresh_board(file: &[u8]) -> [u64; BOARD_LENGTH]
     board
 }
 
-// A board that no run of months can leave: its next month is a thirteenth.
+// A board that no run of months can leave: its next month is a thirteenth. `riverplan` makes one too, to save it: two lines each, and no crate of the
+// engine has a use for such a board.
 pub fn thirteenth() -> [u64; BOARD_LENGTH]
     ensures { result ≡ 12 ∷ replicate 1225 0 }
 {

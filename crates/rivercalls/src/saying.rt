@@ -1,12 +1,13 @@
-// The lines of short months.
-// What a call came to is made into what is printed of it: one function for this and `printing::saying::say` would be told which at each call.
+// The lines of short months. What was asked may be any bytes, as in `printing::saying`. `say` there and `say_months` differ in the type that is
+// printed; one function for both would be told it at each call, as `Months::from(..)`.
 use std::io;
 use stock::months::Months;
 
 // What was asked, and the short months.
-pub fn say_months<R: Print, M: Into<Months>>(rt: &R, what: &str, told: M) -> io::Result<()> {
+pub fn say_months<R: Print, M: Into<Months>>(rt: &R, what: &[u8], told: M) -> io::Result<()> {
     let told: Months = told.into();
-    println!(rt; "{what} {told}")
+    rt.write_all(what)?;
+    println!(rt; " {told}")
 }
 
 // The short months of a right, by its place in the list.

@@ -16,7 +16,7 @@ fn set_percents(file: &mut [u8], percents: [u8; 3]) {
 }
 
 // The month from the fresh board: its answer and, where it is accepted, what went deep, and what it leaves.
-fn run<R: Print>(rt: &R, file: &[u8], what: &str) -> io::Result<()> {
+fn run<R: Print>(rt: &R, file: &[u8], what: &[u8]) -> io::Result<()> {
     let mut board = fresh_board(file);
     let mut report = [0u64; REPORT];
     let answer = month(file, &SHEET, &mut board, &mut report);
@@ -31,13 +31,13 @@ fn run<R: Print>(rt: &R, file: &[u8], what: &str) -> io::Result<()> {
 
 pub fn call<R: Print>(rt: &R, file: &mut [u8]) -> io::Result<()> {
     set_percents(file, [50, 30, 20]);
-    run(rt, file, "month by 50, 30, 20:")?;
+    run(rt, file, b"month by 50, 30, 20:")?;
     set_percents(file, [50, 30, 0]);
-    run(rt, file, "month by 50, 30:")?;
+    run(rt, file, b"month by 50, 30:")?;
     set_percents(file, [0, 0, 0]);
-    run(rt, file, "month by zeros:")?;
+    run(rt, file, b"month by zeros:")?;
     set_percents(file, [50, 30, 21]);
-    run(rt, file, "month by 50, 30, 21:")?;
+    run(rt, file, b"month by 50, 30, 21:")?;
     set_percents(file, [255, 100, 1]);
-    run(rt, file, "month by 255, 100, 1:")
+    run(rt, file, b"month by 255, 100, 1:")
 }

@@ -40,7 +40,7 @@ fn check_file<R: Files + Print + Eprint>(rt: &R, path: &[u8]) -> io::Result<()> 
     }
 }
 
-// Where a line cannot be written the later ones would be lost too.
+// Where a line cannot be written the later ones would be lost too. The words are asked for by number (`files::words`).
 fn check_all<R: Files + Env + Print + Eprint>(rt: &R) -> io::Result<()> {
     for i in 1..word_count(rt) {
         let mut space = [0; WORD_ROOM];

@@ -9,7 +9,8 @@ use lister::Listing;
 use places::report::MOST_REPORT;
 use stock::stock;
 
-// The lines of the months of all sheets for which there is room, counted from the first on; or the line of the board's refusal.
+// The lines of the months of all sheets for which there is room, counted from the first on; or the line of the board's refusal. Too little room lists
+// nothing, which is printed as it is: no `Option`.
 pub fn list_months<'t>(
     file: &[u8],
     sheets: &[u8],

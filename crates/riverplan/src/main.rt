@@ -30,10 +30,12 @@ fn plan<R: Print + Eprint>(rt: &R, file: &[u8], year: &[u8], dry: &[u8]) -> io::
     if year.len() < YEAR {
         return Ok(());
     }
+    let mut store = [0; STORE_LENGTH];
+    let mut board = [0; BOARD_LENGTH];
     let mut plan = Plan {
         file,
-        store: [0; STORE_LENGTH],
-        board: [0; BOARD_LENGTH],
+        store: &mut store,
+        board: &mut board,
     };
     let (winter, spring) = year.split_at(WINTER);
     trial::try_dry(rt, &mut plan, winter, spring, dry)?;

@@ -1,20 +1,26 @@
 // The lines of a store's three calls with one name, and of a comparison.
+ghost use Rattle.std.specs.Prelude.{◌≡◌};
+ghost use Rattle.store.specs.Calls.{save_of, drop_of};
+
 use answers::Answer;
 use std::io;
 use store::{drop_name, recall, save};
 
-// All three calls with one name, in a line.
+// All three calls with one name, in a line. What is asked may be any bytes, as in `printing::saying`.
 pub fn ask<R: Print>(
     rt: &R,
-    what: &str,
+    what: &[u8],
     store: &mut [u8],
     name: &[u8],
     board: &mut [u64],
-) -> io::Result<()> {
+) -> io::Result<()>
+    ensures { store.new ≡ (drop_of (save_of store.old name.now board.old).store name.now).store }
+{
     let saved = Answer::from(save(store, name, board));
     let recalled = Answer::from(recall(store, name, board));
     let dropped = Answer::from(drop_name(store, name));
-    println!(rt; "{what}, save, recall, drop: {saved} {recalled} {dropped}")
+    rt.write_all(what)?;
+    println!(rt; ", save, recall, drop: {saved} {recalled} {dropped}")
 }
 
 // Whether two texts, the first of so many bytes, are the same.

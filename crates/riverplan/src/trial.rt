@@ -14,10 +14,24 @@ use std::io;
 // The month of the year that March is.
 const MARCH: u32 = 5;
 
-// The header, and the fresh board.
-fn begin<R: Print + Eprint>(rt: &R, plan: &mut Plan, out: &mut [u8; FILE_ROOM]) {
-    let listing = Listing::open(plan.file, &mut plan.board, &mut [], out);
+// The header, and the fresh board. A board of another length begins no listing.
+fn list_fresh<R: Print + Eprint>(
+    rt: &R,
+    file: &[u8],
+    board: &mut [u64],
+    out: &mut [u8; FILE_ROOM],
+) {
+    let Some(board) = board.as_mut_array() else {
+        return;
+    };
+    let listing = Listing::open(file, board, &mut [], out);
     let _ = write(rt, listing.text.bytes());
+}
+
+// The same for a plan.
+fn begin<R: Print + Eprint>(rt: &R, plan: &mut Plan, out: &mut [u8; FILE_ROOM]) {
+    let board = &mut *plan.board;
+    list_fresh(rt, plan.file, board, out);
 }
 
 // What the dry spring leaves is saved too, so that it can be looked at later.
@@ -27,13 +41,15 @@ fn dry_spring<R: Print + Eprint>(
     dry: &[u8],
     out: &mut [u8],
 ) -> io::Result<()> {
-    plan.save(rt, "save MARCH:", b"MARCH   ")?;
+    plan.save(rt, b"save MARCH:", b"MARCH   ")?;
     plan.print_months(rt, dry, MARCH, out);
-    plan.save(rt, "save DRY:", b"DRY     ")?;
-    plan.recall(rt, "recall MARCH:", b"MARCH   ")
+    plan.save(rt, b"save DRY:", b"DRY     ")?;
+    plan.recall(rt, b"recall MARCH:", b"MARCH   ")
 }
 
-// The spring of a year that was run from the fresh board without any trial. The text of its winter is written over.
+// The spring of a year that was run from the fresh board without any trial; the board is made in two lines, as in `rivercalls`. A file that has none
+// was turned down by the first line printed, and leaves zeros here, from which its months are turned down as well. The text of the winter is written
+// over.
 fn list_untried<'t>(file: &[u8], winter: &[u8], spring: &[u8], out: &'t mut [u8]) -> &'t [u8]
     ensures { length result.now ≤ length out.old }
 {

@@ -39,7 +39,7 @@ fn list<R: Files + Print + Eprint>(rt: &R, basin: &[u8], months: &[u8]) -> Resul
     with_listing(rt, file, |listing| list_months(rt, months, listing))
 }
 
-// The names that stand from argument i on; a name that is not there names no file.
+// The names that stand from argument i on, words being asked for by number (`files::words`); a name that is not there names no file.
 fn list_named<R: Files + Env + Print + Eprint>(rt: &R, i: usize) -> Result<(), Unwritten>
     requires { i < 18446744073709551615 }
 {

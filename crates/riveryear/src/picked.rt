@@ -28,7 +28,7 @@ fn list_year<R: Print + Eprint>(
     }
 }
 
-// Year after year, until one ends the listing. The first is named by the third argument.
+// Year after year, until one ends the listing. The first is named by the third argument, and words are asked for by number (`files::words`).
 pub fn list_years<R: Env + Print + Eprint>(
     rt: &R,
     book: &[u8],

@@ -18,7 +18,7 @@ pub enum Section {
 }
 
 impl Section {
-    // Its place in the table.
+    // Its place in the table: the number that the language gives it, for which std has no `From`.
     fn place(self) -> usize
         ensures { (result ≡ place_of self) × (result < 4) }
     {
@@ -73,7 +73,7 @@ impl<'a> Contents<'a> {
         Some(Contents { file })
     }
 
-    // Where a section's body starts.
+    // Where a section's body starts. A cast, here and of a count, since std has no `From` for `u32` to `usize`.
     #[tactic(auto, unfolding(crate::specs::File::offset_of))]
     fn offset(&self, section: Section) -> usize
         ensures { (result ≡ offset_of self.now.file.now (place_of section)) × (result < 4294967296) }

@@ -1,4 +1,5 @@
-// Named boards to come back to: a board saved under a name in bytes that the caller lends, recalled from there, and its name dropped.
+// Named boards to come back to: a board saved under a name in bytes that the caller lends, recalled from there, and its name dropped. Store, name and
+// board are lent one by one, as C lends them.
 #![tactic(auto)]
 
 ghost use Rattle.std.specs.Prelude.{◌≡◌, IfOk, eqb, length};

@@ -31,7 +31,7 @@ within_same w w' bd h = record {
 module _ {s : Setting} {i m : ℕ} {f a : List ℕ} (sh : List Bool) {bd : List ℕ} (o : Ready s i m f a bd) (size : length bd ≡ board_length) (marks : 64 ≤ length sh) where
   abbrev pub turn_in : (b : Basin) → Describes s b → BeforeTurn
   turn_in b w = record {
-    right = record { basin = b; stations = s.bodies.now.stations.now; table = s.below.now; reservoirs = s.bodies.now.reservoirs.now; patterns = s.sums.now; rights = s.bodies.now.rights.now; setting = w; place = i; in_list = o.place };
+    right = record { basin = b; stations = s.bodies.now.stations.now; table = s.below.now.rows; reservoirs = s.bodies.now.reservoirs.now; patterns = s.sums.now; rights = s.bodies.now.rights.now; setting = w; place = i; in_list = o.place };
     month = m;
     in-year = o.in-year;
     flow = f;
@@ -108,8 +108,8 @@ module _ (T : BeforeTurn) {q : RightRecord} (e : q ≡ the_record T.right) where
           drew = subst (λ (u : RightRecord). Drawn u.kind R.table R.reservoirs u.reservoir u.row (ask - d) f₁ bd₁ f₂ bd₂ x) e drew;
         }
 
-        pub finish-ok : (y : Reason) → CanFinish R.table R.patterns R.rights R.place q (share_of ask d x y) f₂ a₁ bd₂
-        finish-ok y = subst (λ (u : RightRecord). CanFinish R.table R.patterns R.rights R.place u (share_of ask d x y) f₂ a₁ bd₂) (sym e) (can-finish T after_storage y)
+        pub finish-ok : (y : Reason) → CanFinish R.patterns R.rights R.place q (share_of ask d x y) f₂ a₁ bd₂
+        finish-ok y = subst (λ (u : RightRecord). CanFinish R.patterns R.rights R.place u (share_of ask d x y) f₂ a₁ bd₂) (sym e) (can-finish T after_storage y)
 
         -- ---- after the returns
 

@@ -13,7 +13,7 @@ use Rattle.returns.specs.Returning.{Gave, GaveBy}
 use Rattle.turns.specs.declared.serve.Share.{Share}
 use Rattle.turns.specs.Finish.{rest_of, given, CanFinish, Finished}
 
-module _ {t : List ℕ} {pa : List (List ℕ)} {ri : List ℕ} {i : ℕ} {r : RightRecord} {x : Share} {f a bd : List ℕ} (o : CanFinish t pa ri i r x f a bd) where
+module _ {t : List ℕ} {pa : List (List ℕ)} {ri : List ℕ} {i : ℕ} {r : RightRecord} {x : Share} {f a bd : List ℕ} (o : CanFinish pa ri i r x f a bd) where
   -- the fields of the record as the code read them
   module _ {points which e : ℕ} (ep : points ≡ r.points) (ew : which ≡ r.pattern) (ee : e ≡ r.efficiency) where
     module _ {f' a' bd' : List ℕ} {deep : ℕ} (g : GaveBy t (get_or pa which []) ri (record { right = i; points = points; pattern = which; amount = rest_of (given x) e }) f a bd f' a' bd' deep) where

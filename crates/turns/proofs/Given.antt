@@ -74,7 +74,7 @@ pub record BeforeTurn : Type 0 where
   pub available : List ℕ
   pub short : List Bool
   pub board : List ℕ
-  pub river-ok : RiverOk right.table flow available 4000000000000000000
+  pub river-ok : RiverOk flow available 4000000000000000000
   pub board-size : length board ≡ board_length
   pub board-ok : Roomy board 4000000000000000000
   pub marks : 64 ≤ length short

@@ -113,7 +113,6 @@ line-ready {s} can {k} hk p =
         place = hk;
         in-year = can.in-year;
         river = record {
-          downhill = can.river.downhill;
           room = λ u o. omega (arith, few, can.river.room u o, p.grown u o);
           within = p.within;
         };

@@ -23,7 +23,7 @@ use Rattle.grants.specs.Grants.{CanSee, seen_by, part_of}
 use Rattle.turns.specs.Finish.{CanFinish}
 use Rattle.grants.specs.Stages.{is_instream, CanAsk, CanTake, capacity_in, board_stored, CanFill, drawn_in, board_drawn, home_row, CanDraw}
 use Rattle.turns.proofs.Given.{RightAt, the_record, the_kind, the_row, the_reservoir, the_path, BeforeTurn, RiverGiven, AfterRiver, AfterStorage, the_part, the_demand, the_share}
-use Rattle.turns.proofs.Facts.{rows-st, few, path-in, reservoirs-count, rights-count, right_is, capacity-is, home-in}
+use Rattle.turns.proofs.Facts.{rows-st, few, downhill, path-in, reservoirs-count, rights-count, right_is, capacity-is, home-in}
 use Rattle.turns.proofs.RightFacts.{right-good, place-most, limit_is, row_in, row_on, efficiency-is, points-ok, project-behind, storage-behind}
 use Rattle.turns.proofs.Places.{poured-size, poured-grown, poured-other}
 use Rattle.turns.proofs.RowReads.{taken-read, release-read, lowered}
@@ -64,7 +64,7 @@ module _ (T : BeforeTurn) where
 
   pub can-see : CanSee R.stations R.table (the_row R)
   can-see = record {
-    row-ok = record { downhill = T.river-ok.downhill; on = row_on R };
+    on = row_on R;
     stationed = λ q h. omega (arith, path-in R.setting (the_row R) (row_in R) q h, rows-st R.setting);
   }
 
@@ -97,7 +97,7 @@ module _ (T : BeforeTurn) where
     along-fits n k h = omega (arith, G.gave.part, ap (part_of T.available ask) (seen-along (the_kind R) R.table T.available T.short (the_row R) n), path-fits (seen_on T.short T.available (the_row R) (the_path R)) refl k h)
 
     self : has (the_row R) (the_path R) ≡ true
-    self = by-self R.table T.river-ok.downhill (the_row R) (row_on R)
+    self = by-self R.table (downhill R.setting) (the_row R) (row_on R)
 
     own-fits : (k : Kind) → part_of T.available ask (seen_by k R.table T.available T.short (the_row R)) ≤ get_or T.available (the_row R) 0
     unfolding part_of
@@ -107,13 +107,13 @@ module _ (T : BeforeTurn) where
     own-fits Storage = path-fits (seen_on T.short T.available (the_row R) (the_path R)) refl (the_row R) self
 
     in_path : (k : ℕ) → has k (the_path R) ≡ true → k < 64
-    in_path = by_in R.table T.river-ok.downhill (the_row R) (row_on R)
+    in_path = by_in R.table (downhill R.setting) (the_row R) (row_on R)
 
     pub can-take : CanTake (the_kind R) R.table (the_row R) d T.flow T.available
     can-take = record {
       on = row_on R;
       divert_ok = λ n. record {
-        row-ok = record { downhill = T.river-ok.downhill; on = row_on R };
+        on = row_on R;
         flows = record { at_least = λ k h. omega (arith, along-fits n k h, T.river-ok.within k (in_path k h)) };
         availables = record { at_least = along-fits n };
       };
@@ -174,8 +174,8 @@ module _ (T : BeforeTurn) where
     can-draw = record {
       there = λ z. let h : the_reservoir R < reservoir_count R.reservoirs = project-behind R z in (h, omega (arith, few_reservoirs R));
       release_ok = λ z x l. let h : the_reservoir R < reservoir_count R.reservoirs = project-behind R z in record {
-        row-ok = record { downhill = T.river-ok.downhill; on = home-on h };
-        flows = record { fits = λ k q. let c : k < 64 = by_in R.table T.river-ok.downhill (home_row R.reservoirs (the_reservoir R)) (home-on h) k q in omega (arith, l, flow-less k c, T.river-ok.room k c, ask-small D.given) };
+        on = home-on h;
+        flows = record { fits = λ k q. let c : k < 64 = by_in R.table (downhill R.setting) (home_row R.reservoirs (the_reservoir R)) (home-on h) k q in omega (arith, l, flow-less k c, T.river-ok.room k c, ask-small D.given) };
       };
     }
 
@@ -228,14 +228,13 @@ module _ (T : BeforeTurn) where
     within₂ : (k : ℕ) → k < 64 → get_or S.river.available k 0 ≤ get_or S.flow k 0
     within₂ k h = omega (arith, (release-read 64 (the_kind R) S.drawn R.table (home_row R.reservoirs (the_reservoir R)) (the_row R) S.river.flow S.river.available S.flow (S.drew.levels 64 S.river.available) k h).1, within₁ S.river k h)
 
-    pub can-finish : (y : Reason) → CanFinish R.table R.patterns R.rights R.place (the_record R) (the_share S y) S.flow S.river.available S.board
+    pub can-finish : (y : Reason) → CanFinish R.patterns R.rights R.place (the_record R) (the_share S y) S.flow S.river.available S.board
     can-finish y = record {
       small = both_small;
       efficient = omega (arith, (right-good R).efficiency_most, efficiency-is R);
       on = row_on R;
       points-ok = points-ok R;
       river = record {
-        downhill = T.river-ok.downhill;
         room = λ k h. omega (arith, grown₂ k h, T.river-ok.room k h);
         within = within₂;
       };

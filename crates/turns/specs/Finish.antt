@@ -21,12 +21,12 @@ rest_of d e = d - d * e / 100
 abbrev pub given : Share → ℕ
 given x = x.from_river + x.from_storage
 
-pub record CanFinish (t : List ℕ) (pa : List (List ℕ)) (ri : List ℕ) (i : ℕ) (r : RightRecord) (x : Share) (f a bd : List ℕ) : Type 0 where
+pub record CanFinish (pa : List (List ℕ)) (ri : List ℕ) (i : ℕ) (r : RightRecord) (x : Share) (f a bd : List ℕ) : Type 0 where
   pub small : given x ≤ most_amount
   pub efficient : r.efficiency ≤ 100
   pub on : r.row < 64
   pub points-ok : PointsOk pa ri i r.points r.pattern
-  pub river : RiverOk t f a roomy
+  pub river : RiverOk f a roomy
   pub board : Roomy bd roomy
 
 pub record Finished (t : List ℕ) (pa : List (List ℕ)) (ri : List ℕ) (i : ℕ) (r : RightRecord) (x : Share) (f a : List ℕ) (sh : List Bool) (bd f' a' : List ℕ) (sh' : List Bool) (bd' : List ℕ) (g : Grant) : Type 0 where

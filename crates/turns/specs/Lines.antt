@@ -61,7 +61,7 @@ pub record CanServe (s : Setting) (m : ℕ) (f a bd rp : List ℕ) : Type 0 wher
   pub basin : Basin
   pub setting : Describes s basin
   pub in-year : m < 12
-  pub river : RiverOk s.below.now f a 1000000000000000000
+  pub river : RiverOk f a 1000000000000000000
   pub board : Roomy bd 1000000000000000000
   pub within : Within basin bd
   pub lines : lines_end (right_count s.bodies.now.rights.now) ≤ length rp

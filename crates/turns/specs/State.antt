@@ -55,7 +55,7 @@ pub record Ready (s : Setting) (i m : ℕ) (f a bd : List ℕ) : Type 0 where
   pub setting : Describes s basin
   pub place : i < right_count s.bodies.now.rights.now
   pub in-year : m < 12
-  pub river : RiverOk s.below.now f a 4000000000000000000
+  pub river : RiverOk f a 4000000000000000000
   pub board : Roomy bd 4000000000000000000
   pub within : Within basin bd
 

@@ -49,8 +49,8 @@ fn finish(
     short: &mut [bool; 64],
     board: &mut [u64; BOARD_LENGTH],
 ) -> Grant
-    requires { let s = setting.now in CanFinish s.below.now s.sums.now s.bodies.now.rights.now i right share river.old.flow river.old.available board.old }
-    ensures { let s = setting.now in Finished s.below.now s.sums.now s.bodies.now.rights.now i right share river.old.flow river.old.available short.old board.old river.new.flow river.new.available short.new board.new result }
+    requires { let s = setting.now in CanFinish s.sums.now s.bodies.now.rights.now i right share river.old.flow river.old.available board.old }
+    ensures { let s = setting.now in Finished s.below.now.rows s.sums.now s.bodies.now.rights.now i right share river.old.flow river.old.available short.old board.old river.new.flow river.new.available short.new board.new result }
 {
     let d = share.from_river + share.from_storage;
     let row = usize::from(right.row);

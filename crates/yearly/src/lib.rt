@@ -20,6 +20,7 @@ pub fn open_year<'a>(listing: &mut Listing, book: &'a [u8], year: u32) -> Option
     let board = &mut *listing.board;
     match judge_year(listing.file, book, year, board) {
         Ok(body) => {
+            // A cast, since std has no `From` for `u64` to `usize`.
             let first = listing.sheet_size() * listing.board[MONTH] as usize;
             Some(&body[first..])
         }

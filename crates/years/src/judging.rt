@@ -1,5 +1,6 @@
 // The sheets of a year's body, and the look for runoff over its limit. The list runoff has a number to a station, and is lent
-// for each sheet anew.
+// for each sheet anew. That the body has twelve sheets of that length each function asks: the list is the month's runoff after it, so that a struct of
+// both would be taken apart for every month.
 ghost use Rattle.std.specs.Prelude.{◌≡◌, ◌≤◌, ◌<◌, length, drop};
 ghost use Rattle.rules.specs.Tally.{over_limit, over_answer};
 ghost use Rattle.answers.specs.Answers.{refusal_of};
@@ -9,7 +10,7 @@ ghost use Rattle.years.specs.Runs.{first_over, CanRead};
 
 use month::refusals::judge_runoff;
 use rules::Refusal;
-use sheets::decode;
+use sheets::{decode, sheet_size};
 
 // The months of a year.
 pub const MONTHS: usize = 12;
@@ -19,7 +20,7 @@ pub fn read_sheet(body: &[u8], k: usize, runoff: &mut [u32])
     requires { CanRead body.now runoff.old × (k < 12) }
     ensures { runoff.new ≡ sheet_at (length runoff.old) body.now k }
 {
-    let size = 4 * runoff.len();
+    let size = sheet_size(runoff.len());
     let at = size * k;
     let end = at + size;
     decode(&body[at..end], runoff);
@@ -34,8 +35,8 @@ fn judge_sheet(body: &[u8], k: usize, runoff: &mut [u32]) -> Result<(), Refusal>
     judge_runoff(runoff)
 }
 
-// That of the first sheet that has one, from month `first` on. The sheets go by number, as the run reads them after: parts of the body
-// (`chunks_exact`) would have to have a length, and a list of no station is not ruled out here.
+// That of the first sheet that has one, from month `first` on. The sheets go by number, as the run reads them after: `chunks_exact` must not be
+// given 0, and this contract does not rule out a list of no station.
 pub fn judge_sheets(body: &[u8], first: usize, runoff: &mut [u32]) -> Result<(), Refusal>
     requires { CanRead body.now runoff.old × (first ≤ 12) }
     ensures { refusal_of result ≡ first_over (drop first (sheets_in (length runoff.old) body.now)) }

@@ -1,4 +1,5 @@
-// The run of a year: all that is turned down is turned down before the first store.
+// The run of a year: all that is turned down is turned down before the first store. Board and reports are lent one by one, as C lends them; runoff is
+// room for a sheet, made once. Bodies and body are what was looked up of file and book, and a month needs both as they are.
 ghost use Rattle.std.specs.Prelude.{◌≡◌, true, List, ℕ, length, drop, IfOk};
 ghost use Rattle.places.specs.Board.{month_at};
 ghost use Rattle.rules.specs.Basin.{rows};
@@ -74,6 +75,7 @@ fn run_through(
     requires { CanThrough (basin_in bodies.now) body.now told runoff.old board.old reports.old }
     ensures { WentThrough (basin_in bodies.now) (drop (month_at board.old) (sheets_in (length runoff.old) body.now)) board.old reports.old (outcome_of (count_answer result) board.new reports.new) }
 {
+    // A cast, here and below, since std has no `From` for `u64` to `usize`.
     let m = board[MONTH] as usize;
     judge_sheets(body, m, runoff)?;
     run_rest(bodies, body, m, told, runoff, board, reports);
@@ -116,6 +118,7 @@ pub fn judge_year<'a>(
 {
     let body = find_year(file, book, year)?;
     let n = station_count(file);
+    // Room for the longest sheet, as above.
     let mut runoff = [0u32; 64];
     judge_sheets(body, board[MONTH] as usize, &mut runoff[..n])?;
     Ok(body)

@@ -30,7 +30,7 @@ returns c =
       rows_told = c.put_rows.ensures;
       lowered = c.evaporate.new.board;
       losses_told = put_mid at (reservoir_count rs) told losses;
-      lost = lost-told rs _ (reservoir_count rs) _ _ told losses at (search rules) fits c.evaporate.ensures;
+      lost = lost-told rs _ (reservoir_count rs) _ _ told _ losses at (search rules) fits c.evaporate.ensures;
       deep_told = λ z. set (put_mid (c.rows_end.ensures z) (k z) told losses) ((c.deep_place-2.ensures ∙ ap (deep_place shape.rights shape.rows) e.2) z) s.deep;
       gone_on = ap (set c.evaporate.new.board month_place) c.next_month.ensures;
     })

@@ -1,29 +1,14 @@
-use mathlib.Core.List.{List}
-use mathlib.Core.Path.{◌≡◌, refl, ap, ◌∙◌}
-use mathlib.Core.Bool.{Bool, true, false, not}
+use Rattle.std.proofs.Common.{arith, ◌≡◌, ◌∙◌, refl, ap, ℕ, ◌+◌, ◌-◌, ◌<◌, List, length, get_or, get_or-take, get_or-drop, take, drop, Bool, true, false, not, eqb}
 use mir.Val.{bool_byte}
-use Prim.Native.Nat.{ℕ, ◌+◌, ◌<◌}
-use native.Mathlib.Omega.{arith}
-use borrow.Author.Rules.{rules}
-use lib.Dec.{eqb}
-use lib.ListN.{get_or}
 use Rattle.general.specs.Sums.{only}
 use Rattle.general.specs.Tests.{with_bit}
 use Rattle.general.proofs.Tests.{only-le}
 use Rattle.general.proofs.Loops.{total-none, total-more}
-use Rattle.places.specs.Board.{word_place}
+use Rattle.places.specs.Board.{words_from}
 use Rattle.places.specs.Report.{from_river_place}
-use Rattle.closing.specs.Noting.{has_reason, reasons_in, CanNote, WordsNoted}
-use Rattle.closing.proofs.Noted.{noted-none, noted-at}
+use Rattle.closing.specs.Noting.{has_reason, reasons_in, CanNote}
+use Rattle.closing.proofs.Noted.{Noted, noted-none, noted-at, noted-over}
 use Rattle.closing.proofs.noting.note_shorts.Goals as goal
-
--- the word as it is read, of twelve bits still
-small : (n m : ℕ) (bd rp : List ℕ) → CanNote n m bd rp → (k : ℕ) → k < n → (x : List ℕ) → WordsNoted m k rp bd x → (p : ℕ) → p ≡ word_place k → get_or x p 0 < 4096
-small n m bd rp can k h x l p e = omega (arith, ap (λ (q : ℕ). get_or x q 0) e, l.beyond (word_place k) (omega arith), can.words k h)
-
--- the reason at the place where it is read
-read_at : (rp : List ℕ) (m k p q y : ℕ) (bd : List ℕ) → q ≡ from_river_place k → y ≡ with_bit (get_or bd p 0) m (not (eqb (get_or rp (q + 2) 0) 0)) → y ≡ with_bit (get_or bd p 0) m (has_reason rp k)
-read_at rp m k p q y bd e h = h ∙ ap (λ (j : ℕ). with_bit (get_or bd p 0) m (not (eqb (get_or rp (j + 2) 0) 0))) e
 
 reasons-none : (rp : List ℕ) → 0 ≡ reasons_in 0 rp
 unfolding reasons_in
@@ -38,18 +23,37 @@ counts : (t : Bool) → bool_byte t ≡ only t 1
 counts true = refl
 counts false = refl
 
+-- the word as it is read, of twelve bits still
+small : (n m i k : ℕ) (bd rp words : List ℕ) → CanNote n m bd rp → i < n → k ≡ n → Noted m i rp (take k (drop words_from bd)) words → get_or words i 0 < 4096
+small n m i k bd rp words can h e l = omega (arith, l.others i (omega arith), get_or-take k (drop words_from bd) i 0 (omega arith), get_or-drop words_from bd i 0, can.words i h)
+
 pub loop-i-init : goal.loop-i-init
-loop-i-init c = (search rules, search rules, reasons-none c.args.report.now, noted-none c.args.m c.args.report.now c.args.board.now)
+loop-i-init c = (omega arith, reasons-none c.args.report.now, noted-none _ _ _)
+
+pub put_bit-requires : goal.put_bit-requires
+put_bit-requires c =
+    let n = c.args.n in
+    let l = c.loop-i in
+    (omega (arith, c.requires.in-year), omega (arith, small n c.args.m l.i (words_from + n - words_from) c.args.board.now c.args.report.now l.word-items c.requires (omega arith) (omega arith) l.invariant.2))
 
 pub loop-i-preserved : goal.loop-i-preserved
 loop-i-preserved c =
     let s = c.args in
     let l = c.loop-i in
-    let p = c.word_place-place in
-    let q = c.line_place in (
-      omega arith,
-      omega (arith, l.invariant.1, c.from-shorts.ensures ∙ counts (not (eqb (get_or s.report.now (q.result + 2) 0) 0)), only-le (not (eqb (get_or s.report.now (q.result + 2) 0) 0)) 1),
-      reasons-more s.report.now l.i l.shorts q.result _ l.invariant.2 q.ensures (c.from-shorts.ensures ∙ counts (not (eqb (get_or s.report.now (q.result + 2) 0) 0))),
-      noted-at s.m s.report.now s.board.now l.i (omega (arith, c.requires.few)) (omega arith) l.board l.invariant.3 p.result _ p.ensures
-          (read_at s.report.now s.m l.i p.result q.result _ l.board q.ensures c.put_bit.ensures),
+    let q = c.line_place in
+    let t = not (eqb (get_or s.report.now (q.result + 2) 0) 0) in
+    let e = c.from-shorts.ensures ∙ counts t in (
+      omega (arith, l.invariant.0, e, only-le t 1),
+      reasons-more s.report.now l.i l.shorts q.result _ l.invariant.1 q.ensures e,
+      noted-at s.m s.report.now _ l.i c.put_bit.result l.word-items (omega arith) l.invariant.2
+          (c.put_bit.ensures ∙ ap (λ (j : ℕ). with_bit (get_or l.word-items l.i 0) s.m (not (eqb (get_or s.report.now (j + 2) 0) 0))) q.ensures),
     )
+
+pub returns : goal.returns
+returns c =
+    let s = c.args in
+    let l = c.loop-i in
+    let long : s.n ≡ length l.word-items = omega (arith, l.auto.word-items) in
+    let done : l.i ≡ s.n = omega arith in
+    let noted = rw done at l.invariant.2 in
+    (rw (← done) l.invariant.1, noted-over s.m s.n (words_from + s.n - words_from) s.report.now s.board.now l.word-items long (omega arith) (omega (arith, c.requires.few)) noted)

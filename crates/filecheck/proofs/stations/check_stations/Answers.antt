@@ -5,7 +5,7 @@ use Rattle.records.specs.Records.{rows_of}
 use Rattle.filerules.specs.FileRules.{station_ok}
 use Rattle.filecheck.specs.Check.{stations_verdict}
 use Rattle.filecheck.proofs.Faults.{verdict_from, verdict-all, verdict-on, verdict-here, verdict-last}
-use Rattle.filecheck.proofs.Found.{found_to, found_none, found-small, found-more, found_all}
+use Rattle.filecheck.proofs.Found.{found_to, found_none, found-later, found-more, found_all}
 use Rattle.filerules.proofs.RowRules.{plain-fails, row-lost, row-good}
 use Rattle.filecheck.proofs.stations.check_stations.Goals as goal
 
@@ -25,15 +25,15 @@ returns-in_default-clause-value c =
     let row = c.loop-row.row in
     verdict-here Station (station_ok s) (rows_of s) row (omega arith) (row-lost s row (omega arith) _ c.row_below.ensures c.in_default.is) ∙ c.loop-row.invariant.2
 
-pub overflow_cast-below : goal.overflow_cast-below
-overflow_cast-below c = let h = found-small c.args.stations.now c.loop-row.row c.in-Some.next _ c.row_below.ensures c.in-Some.is c.requires.1 in omega arith
+pub lead-requires : goal.lead-requires
+lead-requires c = found-later c.args.stations.now c.loop-row.row c.in-Some.next _ c.row_below.ensures c.in-Some.is c.requires.1
 
 pub loop-row-preserved : goal.loop-row-preserved
 loop-row-preserved c = let s = c.args.stations.now in let row = c.loop-row.row in let found = c.row_below.ensures in let told = c.in-Some.is in (
   omega arith,
   omega arith,
   verdict-on Station (station_ok s) (rows_of s) row (omega arith) (row-good s row (omega arith) _ found _ told (sym c.plain_ok.ensures ∙ c.if-not-plain_ok.false)) ∙ c.loop-row.invariant.2,
-  found-more s row _ _ found told _ (omega arith) c.loop-row.invariant.3,
+  c.lead.ensures ∙ found-more s row _ _ found told _ (omega arith) c.loop-row.invariant.3,
 )
 
 pub returns : goal.returns

@@ -11,4 +11,4 @@ use Rattle.filecheck.proofs.Found.{found_to}
 use Rattle.filecheck.proofs.stations.check_stations.Given as goal
 
 abbrev pub invariant-loop-row : goal.invariant-loop-row
-invariant-loop-row l = (l.last + 1 ≡ rows_of l.stations) × (l.row ≤ l.last) × (verdict_from Station (station_ok l.stations) (rows_of l.stations) l.row ≡ stations_verdict l.stations) × (l.below ≡ found_to l.stations l.row)
+invariant-loop-row l = (l.last + 1 ≡ rows_of l.stations) × (l.row ≤ l.last) × (verdict_from Station (station_ok l.stations) (rows_of l.stations) l.row ≡ stations_verdict l.stations) × (l.below.rows ≡ found_to l.stations l.row)

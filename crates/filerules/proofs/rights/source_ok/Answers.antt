@@ -7,7 +7,7 @@ use Rattle.filerules.proofs.rights.source_ok.Goals as goal
 pub returns-in-Project : goal.returns-in-Project
 unfolding source_ok
 returns-in-Project c = λ st k g.
-    rw (c.in-Project.is, ← c.from-v.ensures, ← c.from-row.ensures) (below-read _ _ _ _ _ c.reservoir_row.ensures st c.args.below.now _ k g c.is_some_and.ensures (λ x p. search rules))
+    rw (c.in-Project.is, ← c.from-v.ensures, ← c.from-row.ensures) (below-read _ _ _ _ _ c.reservoir_row.ensures st c.args.below.now.rows _ k g c.is_some_and.ensures (λ x p. search rules))
 
 pub returns-in-Storage : goal.returns-in-Storage
 unfolding source_ok

@@ -11,7 +11,7 @@ returns-then-x-eq0 c =
     let s = c.args.setting.now in
     let r = c.args.right in
     let bd = c.args.board.now in (
-      drawn_nothing r.kind s.below.now s.bodies.now.reservoirs.now r.reservoir r.row c.args.lacking c.args.river.now.flow bd c.in-Project.is c.min-x.result
+      drawn_nothing r.kind s.below.now.rows s.bodies.now.reservoirs.now r.reservoir r.row c.args.lacking c.args.river.now.flow bd c.in-Project.is c.min-x.result
           (c.min-x.ensures ∙ ap (min c.args.lacking) (place_read bd (c.storage_place-storage.ensures ∙ ap storage_place c.from-v.ensures))) c.if-x-eq0.true,
       refl,
     )

@@ -15,23 +15,23 @@ entered runoff bd row ex ep = λ z. ex z + get_or bd (ep z) 0
 pub loop-row-init : goal.loop-row-init
 loop-row-init c =
     let s = c.args in
-    gathering-none s.below.now s.runoff.now s.board.now s.river.now.flow s.river.now.available c.requires
+    gathering-none s.below.now.rows s.runoff.now s.board.now s.river.now.flow s.river.now.available c.requires
 
 pub send_down-requires : goal.send_down-requires
 send_down-requires c =
     let s = c.args in
     let l = c.loop-row in
-    can-send s.below.now s.runoff.now s.board.now s.river.now.flow s.river.now.available c.requires l.row (omega (arith, c.requires.sheet)) l.river.flow l.river.available l.invariant _ (entered s.runoff.now s.board.now l.row c.from.ensures c.due_place.ensures)
+    can-send s.below.now.rows s.runoff.now s.board.now s.river.now.flow s.river.now.available c.requires s.below.now.downhill l.row (omega (arith, c.requires.sheet)) l.river.flow l.river.available l.invariant _ (entered s.runoff.now s.board.now l.row c.from.ensures c.due_place.ensures)
 
 pub loop-row-preserved : goal.loop-row-preserved
 loop-row-preserved c =
     let s = c.args in
     let l = c.loop-row in
-    gathering-more s.below.now s.runoff.now s.board.now s.river.now.flow s.river.now.available c.requires l.row (omega (arith, c.requires.sheet)) l.river.flow l.river.available l.invariant _ (entered s.runoff.now s.board.now l.row c.from.ensures c.due_place.ensures) _ _ c.send_down.ensures
+    gathering-more s.below.now.rows s.runoff.now s.board.now s.river.now.flow s.river.now.available c.requires s.below.now.downhill l.row (omega (arith, c.requires.sheet)) l.river.flow l.river.available l.invariant _ (entered s.runoff.now s.board.now l.row c.from.ensures c.due_place.ensures) _ _ c.send_down.ensures
 
 pub returns : goal.returns
 returns c =
     let s = c.args in
     let l = c.loop-row in
-    gathered-all s.below.now s.runoff.now s.board.now s.river.now.flow s.river.now.available c.requires l.river.flow l.river.available
-    (subst (λ (k : ℕ). Gathering s.below.now s.runoff.now s.board.now k l.river.flow l.river.available) (omega arith) l.invariant)
+    gathered-all s.below.now.rows s.runoff.now s.board.now s.river.now.flow s.river.now.available c.requires l.river.flow l.river.available
+    (subst (λ (k : ℕ). Gathering s.below.now.rows s.runoff.now s.board.now k l.river.flow l.river.available) (omega arith) l.invariant)

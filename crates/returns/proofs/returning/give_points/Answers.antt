@@ -31,6 +31,7 @@ split-part-requires c =
     let g = l.invariant.3 sm.0 sm.1 in
     let row_in : c.from-row.result < 64 = omega (arith, c.from-row.ensures, c.return_row.ensures, o.points-ok.rows l.k (omega arith)) in (
       row_in,
+      omega (arith, row_in, l.invariant.0),
       record {
         pattern = sm.0;
         by_sums = sm.1;
@@ -45,7 +46,7 @@ give_share-requires c =
     let l = c.loop-k in
     let sm = o.points-ok.by_sums c.requires.1 in
     let x = c.split-part in
-    can-return c.args.setting.now.below.now l.river.flow l.river.available x.result.at_once c.from-row.result
+    can-return c.args.setting.now.below.now.rows c.args.setting.now.below.now.downhill l.river.flow l.river.available x.result.at_once c.from-row.result
     (river-after _ _ _ _ _ _ _ _ l.k l.river.flow l.river.available l.board l.deep (l.invariant.3 sm.0 sm.1) (omega (arith, o.points-ok.few)) o.river)
     (omega (arith, c.from-row.ensures, c.return_row.ensures, o.points-ok.rows l.k (omega arith)))
     (omega (arith, c.percent_of-next.ensures, (split-le _ _ _ _ _ x.result sm.1.good.sum_most (x.ensures sm.0 sm.1)).0, next_small o l.k l.c c.from-p.result c.loop-k-test.true l.invariant.1 (c.from-p.ensures ∙ c.return_percent.ensures)))
@@ -84,7 +85,7 @@ loop-k-preserved c =
       omega arith,
       omega (arith, pe, total-more (return_percent ri i) l.k l.c l.invariant.1),
       ne,
-      λ pattern s. gave-more c.args.setting.now.below.now pattern ri i rest c.args.river.now.flow c.args.river.now.available c.args.board.now
+      λ pattern s. gave-more c.args.setting.now.below.now.rows pattern ri i rest c.args.river.now.flow c.args.river.now.available c.args.board.now
           l.k l.river.flow l.river.available l.board l.deep (l.invariant.3 pattern s) (omega (arith, o.points-ok.few))
           q x.result _ _ _ (part-is ri i rest l.k row amount re ae)
           s.good.sum_most

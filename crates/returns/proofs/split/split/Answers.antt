@@ -1,7 +1,5 @@
 -- `returns::split::split` meets its contract. Assumes nothing.
-use mathlib.Core.Path.{refl}
-use Prim.Native.Nat.{◌+◌, ◌-◌}
-use native.Mathlib.Omega.{arith}
+use Rattle.std.proofs.Common.{arith, refl, ◌+◌, ◌-◌}
 use Rattle.places.specs.Board.{dues_of}
 use Rattle.returns.proofs.Shares.{split-nothing, split-placed}
 use Rattle.returns.proofs.split.split.Goals as goal
@@ -12,4 +10,5 @@ returns-then-a-eq0 c =
 
 pub returns : goal.returns
 returns c =
-    λ pattern s. split-placed pattern c.args.a (dues_of c.args.row) c.args.board.now (omega arith) c.dues_of-from.result (c.dues_of-from.result + 11 - c.dues_of-from.result) c.split_months.new.dues c.dues_of-from.ensures (omega arith) (omega (arith, c.split_months.auto.dues)) (c.split_months.ensures pattern s)
+    let from = c.dues_of-from in
+    λ pattern s. rw (← from.ensures) (split-placed pattern c.args.a from.result (from.result + 11 - from.result) c.args.board.now c.split_months.new.dues (omega arith) (omega arith) (omega (arith, c.split_months.auto.dues)) (c.split_months.ensures pattern s))

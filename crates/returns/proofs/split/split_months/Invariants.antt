@@ -1,10 +1,7 @@
 -- `returns::split::split_months` meets its contract. Assumes nothing.
+use Rattle.std.proofs.Common.{◌≡◌, ℕ, ◌*◌, ◌/◌, List, get_or}
 use Rattle.returns.specs.Dues.{Sums, Lagged}
-use Prim.Native.Nat.{ℕ, ◌*◌, ◌/◌, ◌≤◌}
-use mathlib.Core.Path.{◌≡◌}
-use mathlib.Core.List.{List}
-use lib.ListN.{length, get_or}
 use Rattle.returns.proofs.split.split_months.Given as goal
 
 abbrev pub invariant-loop-k : goal.invariant-loop-k
-invariant-loop-k l = (11 ≤ length l.dues) × (l.before ≡ l.a * get_or l.sums l.k 0 / 100) × ((pattern : List ℕ) → Sums pattern l.sums → Lagged pattern l.a 0 l.k l.initial.dues l.dues)
+invariant-loop-k l = (l.before ≡ l.a * get_or l.sums l.k 0 / 100) × ((pattern : List ℕ) → Sums pattern l.sums → Lagged pattern l.a 0 l.k l.initial.due-items l.due-items)
