@@ -40,7 +40,8 @@ impl Plan<'_> {
 
     // All three calls of a store with one name.
     pub fn ask<R: Print>(&mut self, rt: &R, what: &[u8], name: &[u8]) -> io::Result<()>
-        ensures { self.new.store.now ≡ (drop_of (save_of self.old.store.now name.now self.old.board.now).store name.now).store }
+        ensures store { self.new.store.now ≡ (drop_of (save_of self.old.store.now name.now self.old.board.now).store name.now).store }
+        ensures board { self.new.board.now ≡ (recall_of (save_of self.old.store.now name.now self.old.board.now).store name.now self.old.board.now).board }
     {
         let store = &mut *self.store;
         let board = &mut *self.board;

@@ -1,6 +1,6 @@
 // The lines of a store's three calls with one name, and of a comparison.
 ghost use Rattle.std.specs.Prelude.{◌≡◌};
-ghost use Rattle.store.specs.Calls.{save_of, drop_of};
+ghost use Rattle.store.specs.Calls.{save_of, recall_of, drop_of};
 
 use answers::Answer;
 use std::io;
@@ -14,7 +14,8 @@ pub fn ask<R: Print>(
     name: &[u8],
     board: &mut [u64],
 ) -> io::Result<()>
-    ensures { store.new ≡ (drop_of (save_of store.old name.now board.old).store name.now).store }
+    ensures store { store.new ≡ (drop_of (save_of store.old name.now board.old).store name.now).store }
+    ensures board { board.new ≡ (recall_of (save_of store.old name.now board.old).store name.now board.old).board }
 {
     let saved = Answer::from(save(store, name, board));
     let recalled = Answer::from(recall(store, name, board));

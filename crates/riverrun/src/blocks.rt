@@ -1,6 +1,7 @@
 // The months of an open file, read in blocks of whole sheets, so that a file of centuries takes no more room than one of a year.
 ghost use Rattle.std.specs.Prelude.{◌≤◌, ◌<◌, length};
-ghost use Rattle.printing.specs.Going.{Begun};
+ghost use Rattle.lister.specs.Lister.{Kept};
+ghost use Rattle.printing.specs.Going.{Begun, Going};
 
 use files::reasons::fail;
 use files::{FILE_ROOM, fill};
@@ -48,6 +49,7 @@ pub fn list_all<R: Print + Eprint, F: Read>(
     listing: &mut Listing,
 ) -> Result<(), Unwritten>
     requires { Begun listing.old }
+    ensures { Going listing.new × Kept listing.old listing.new }
 {
     let size = listing.sheet_size();
     let full = FILE_ROOM - FILE_ROOM % size;

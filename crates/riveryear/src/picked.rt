@@ -1,4 +1,6 @@
 // The years asked for, one after another.
+ghost use Rattle.lister.specs.Lister.{Kept};
+ghost use Rattle.printing.specs.Going.{Going};
 ghost use Rattle.riveryear.specs.Going.{CanListYears, YearWent};
 
 use crate::words::year_asked;
@@ -36,6 +38,7 @@ pub fn list_years<R: Env + Print + Eprint>(
     listing: &mut Listing,
 ) -> Result<(), Unwritten>
     requires { CanListYears years listing.old }
+    ensures { Going listing.new × Kept listing.old listing.new }
 {
     for k in 0..years {
         let year = year_asked(rt, k + 3).unwrap_or(NO_YEAR);

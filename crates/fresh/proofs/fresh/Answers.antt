@@ -1,6 +1,7 @@
 -- `fresh::fresh` meets its contract: a refused file, a board that does not fit, and the board written. Assumes nothing.
 use mathlib.Core.Path.{◌≡◌, sym, ap, ◌∙◌}
 use Prim.Native.Nat.{ℕ, ◌≤◌}
+use native.Mathlib.Omega.{arith}
 use borrow.Author.Rules.{rules}
 use lib.ListN.{length, replicate}
 use Rattle.places.specs.Board.{board_length}
@@ -19,7 +20,7 @@ pub store_starts-requires : goal.store_starts-requires
 store_starts-requires c = (counted c.of.result (accepted-in c.args.file.now _ c.of.ensures (sym c.in_ok-check.ensures))).reservoirs_in
 
 pub returns-in_default : goal.returns-in_default
-returns-in_default c = fresh-unfit c.args.file.now _ (sym c.in_ok-check.ensures) c.in_default.ensures.cases
+returns-in_default c = fresh-unfit c.args.file.now _ (sym c.in_ok-check.ensures) (λ e. omega (arith, e, c.in_default.ensures.cases))
 
 pub returns : goal.returns
 returns c =

@@ -24,7 +24,7 @@ slice_bounds-result-count c =
     let s = c.args in
     let l = s.listing.now in
     let e = c.in-Ok.ensures in
-    first-within l.file.now l.board.now c.requires.in_order c.sheet_size.ensures refl s.book.now s.year (year-there s.book.now s.year l e.refused refl) e.part
+    omega (arith, first-within l.file.now l.board.now c.requires.in_order c.sheet_size.ensures refl s.book.now s.year (year-there s.book.now s.year l e.refused refl) e.part)
 
 pub returns-in-Ok-clause-opened : goal.returns-in-Ok-clause-opened
 returns-in-Ok-clause-opened c = year-accepted c.args.book.now c.args.year c.args.listing.now c.in-Ok.ensures.refused refl c.requires.going
