@@ -1,12 +1,18 @@
 // A block of sheets, listed and written.
-ghost use Rattle.std.specs.Prelude.{◌≡◌};
+ghost use Rattle.std.specs.Prelude.{◌≡◌, false, cond, ltb};
 ghost use Rattle.printing.specs.Going.{CanRead, Went};
 
 use crate::output::{Unwritten, make_room};
 use lister::Listing;
 
-// Lists what was read, with a write wherever a month more might not fit into the text. Nothing more can be listed before more is read where no
-// whole sheet is left and the file does not end here. A `while`, since each step tells how far it came.
+// Whether nothing more can be listed before more is read: no whole sheet is left, and the file does not end here.
+fn used_up(last: bool, left: usize, size: usize) -> bool
+    ensures { result ≡ cond last false (ltb left size) }
+{
+    !last && left < size
+}
+
+// Lists what was read, with a write wherever a month more might not fit into the text. A `while`, since each step tells how far it came.
 pub fn list_read<R: Print + Eprint>(
     rt: &R,
     listing: &mut Listing,
@@ -18,7 +24,7 @@ pub fn list_read<R: Print + Eprint>(
 {
     let size = listing.sheet_size();
     let mut rest = block;
-    while listing.more && (last || size <= rest.len()) {
+    while listing.more && !used_up(last, rest.len(), size) {
         make_room(rt, &mut listing.text)?;
         let used = listing.list_block(rest, last);
         rest = &rest[used..];
