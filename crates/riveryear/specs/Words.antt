@@ -1,5 +1,6 @@
 -- The year that a word of the command line names.
 use Rattle.std.specs.Prelude.{true, false, cond, List, [], ◌∷◌, ℕ, ◌+◌, ◌-◌, ◌*◌, leb, Option, None, Some}
+use Rattle.std.specs.Option.{unwrap_or}
 use Rattle.general.specs.Tests.{between}
 
 -- Decimal digits read on from the number n, the first of them weighing most; none where a byte is no digit.
@@ -19,3 +20,7 @@ year_in (Some n) = cond (leb n most_year) (Some n) None
 unfoldable pub year_named : List ℕ → Option ℕ
 year_named [] = None
 year_named (c ∷ cs) = year_in (read_on 0 (c ∷ cs))
+
+-- The year that a word has looked up: the one that it names. Where it names none, 0 stands for that: no book lists it.
+abbrev pub year_sought : List ℕ → ℕ
+year_sought word = unwrap_or (year_named word) 0

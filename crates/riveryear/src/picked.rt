@@ -10,9 +10,6 @@ use printing::output::{Unwritten, make_room};
 use std::rt::Env;
 use yearly::open_year;
 
-// A word that names no year is looked up as this one, which no book lists, so that a book at fault is told before it.
-const NO_YEAR: u32 = 0;
-
 // One year: the refusal of its run, or its months from the board's on.
 fn list_year<R: Print + Eprint>(
     rt: &R,
@@ -41,7 +38,7 @@ pub fn list_years<R: Env + Print + Eprint>(
     ensures { Going listing.new × Kept listing.old listing.new }
 {
     for k in 0..years {
-        let year = year_asked(rt, k + 3).unwrap_or(NO_YEAR);
+        let year = year_asked(rt, k + 3);
         list_year(rt, book, year, listing)?;
         if !listing.more {
             break;
