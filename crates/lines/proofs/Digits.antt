@@ -8,6 +8,8 @@ use lib.ListN.{length, get_or, take, drop, set, length-append, length-take, leng
 use lib.Seq.{take-suc, take-suc-set, take_all}
 use Rattle.listing.specs.Listing.{digit, decimal_text, space, line_end, line_of}
 use Rattle.std.proofs.lemmas.List.{map-append}
+use Rattle.lines.specs.declared.text.Text.{Text}
+use Rattle.lines.specs.Texts.{bytes_of, room_of}
 use Rattle.lines.specs.Putting.{Put, PutAt}
 use Rattle.lines.proofs.Decimals.{one-digit, two_digits, two-more, one-long, two-long, more-long}
 
@@ -129,6 +131,7 @@ put-line-end {o} {o'} {from} {at} numbers k some e fits x =
 -- ---- what is put in the list, for the text
 
 -- what a text is told of its list
-module _ (o o' line : List ℕ) (at r most : ℕ) (fits : at + most ≤ length o) (long : length o' ≡ length o) (few : length line ≤ most) (w : PutAt at line o o' r) where
-  pub put-in : Put most line (record { bytes = take at o; room = length o - at }) (record { bytes = take r o'; room = length o' - r })
-  put-in = record { bytes = w.put; room = omega (arith, w.ends, few, fits, long); within = few }
+module _ (t t' : Text) (line : List ℕ) (most : ℕ) (same : t'.list.ghost_name ≡ t.list.ghost_name) (fits : most ≤ room_of t) (few : length line ≤ most) (w : PutAt t.len line t.list.now t'.list.now t'.len) where
+  pub put-in : length t'.list.now ≡ length t.list.now → Put most line t t'
+  unfolding bytes_of room_of
+  put-in long = record { bytes = w.put; room = omega (arith, w.ends, few, fits, long, t.within); within = few; same_list = same }

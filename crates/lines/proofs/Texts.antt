@@ -9,7 +9,7 @@ use Rattle.places.specs.Report.{flow_place, evaporation_place}
 use Rattle.general.specs.Sums.{sum_to}
 use Rattle.std.specs.Prelude.{sum}
 use Rattle.std.proofs.lemmas.List.Sums.{fold-append}
-use lib.Seq.{take-suc}
+use lib.Seq.{take-suc, length-take-le}
 use Rattle.std.proofs.lemmas.List.{get_or-drop}
 use Rattle.rules.specs.Basin.{Right}
 use Rattle.records.specs.Records.{rows_of, reservoir_count, right_count, right_of, rights_of, bodies}
@@ -19,29 +19,74 @@ use Rattle.places.specs.Board.{storage_at, due_at}
 use Rattle.boards.specs.Board.{storage_sum, due_sum}
 use Rattle.records.proofs.Rows.{rows_are}
 use Rattle.listing.specs.Listing.{right_line, right_lines, end_line, outflow_in, evaporation_in, month_text}
-use Rattle.lines.specs.Texts.{Text}
-use Rattle.lines.specs.Putting.{most_text, Put}
+use Rattle.lines.specs.declared.text.Text.{Text}
+use Rattle.lines.specs.Texts.{bytes_of, room_of}
+use Rattle.lines.specs.Putting.{most_text, Put, PutAt}
 
 -- ---- one after the other
+
+-- nothing is added
+pub put_none : {a : ℕ} (t : Text) → Put a [] t t
+put_none t = record { bytes = sym (append-nil (bytes_of t)); room = omega arith; within = omega arith; same_list = refl }
 
 -- a line said in another way, no longer than b
 pub put_as : {a b : ℕ} {x y : List ℕ} {t u : Text} → x ≡ y → length y ≤ b → Put a x t u → Put b y t u
 put_as {t} e h p = record {
-  bytes = p.bytes ∙ ap (λ (l : List ℕ). t.bytes ++ l) e;
+  bytes = p.bytes ∙ ap (λ (l : List ℕ). bytes_of t ++ l) e;
   room = omega (arith, p.room, ap length e);
   within = h;
+  same_list = p.same_list;
 }
 
 pub put_then : {a b : ℕ} {x y : List ℕ} {t u v : Text} → Put a x t u → Put b y u v → Put (a + b) (x ++ y) t v
 put_then {x} {y} {t} p q = record {
-  bytes = q.bytes ∙ ap (λ (l : List ℕ). l ++ y) p.bytes ∙ append_assoc t.bytes x y;
+  bytes = q.bytes ∙ ap (λ (l : List ℕ). l ++ y) p.bytes ∙ append_assoc (bytes_of t) x y;
   room = omega (arith, p.room, q.room, length-append x y);
   within = omega (arith, p.within, q.within, length-append x y);
+  same_list = q.same_list ∙ p.same_list;
 }
 
 -- the list is as long as it was
-pub list_kept : {a : ℕ} {x : List ℕ} {t u : Text} → Put a x t u → length u.bytes + u.room ≡ length t.bytes + t.room
-list_kept {x} {t} p = omega (arith, p.room, ap length p.bytes, length-append t.bytes x)
+pub list_kept : {a : ℕ} {x : List ℕ} {t u : Text} → Put a x t u → length (bytes_of u) + room_of u ≡ length (bytes_of t) + room_of t
+list_kept {x} {t} p = omega (arith, p.room, ap length p.bytes, length-append (bytes_of t) x)
+
+-- what is written stands at the start of the list, which a caller may lend to others then
+pub in_list : (t : Text) {x : List ℕ} → bytes_of t ≡ x → take (length x) t.list.now ≡ x
+unfolding bytes_of
+in_list t e = ap (λ (k : ℕ). take k t.list.now) (sym (ap length e) ∙ length-take-le t.len t.list.now t.within) ∙ e
+
+-- two texts are alike where their lists hold the same and as much is written
+module _ (t u : Text) (list : u.list.now ≡ t.list.now) (len : u.len ≡ t.len) where
+  pub same-bytes : bytes_of u ≡ bytes_of t
+  unfolding bytes_of
+  same-bytes = λ z. take (len z) (list z)
+
+  pub same-room : room_of u ≡ room_of t
+  unfolding room_of
+  same-room = λ z. length (list z) - len z
+
+-- A line that was put into a text u that is like t, whose list was lent to it: after it t' is like u'.
+pub put_through : {a : ℕ} {x : List ℕ} {t u u' t' : Text} → u.list.now ≡ t.list.now → u.len ≡ t.len → Put a x u u' → t'.list.now ≡ u'.list.now → t'.len ≡ u'.len → t'.list.ghost_name ≡ t.list.ghost_name → Put a x t t'
+put_through {x} {t} {u} {u'} {t'} e n p e' n' same = record {
+  bytes = same-bytes u' t' e' n' ∙ p.bytes ∙ ap (λ (l : List ℕ). l ++ x) (same-bytes t u e n);
+  room = omega (arith, p.room, same-room u' t' e' n', same-room t u e n);
+  within = p.within;
+  same_list = same;
+}
+
+pub len-is : (t : Text) → length (bytes_of t) ≡ t.len
+unfolding bytes_of
+len-is t = length-take-le t.len t.list.now t.within
+
+-- what was put into a text stands in its list
+pub put_at : {a : ℕ} {x : List ℕ} (t u : Text) → Put a x t u → PutAt t.len x t.list.now u.list.now u.len
+unfolding bytes_of
+put_at {x} t u p = record { put = p.bytes; ends = omega (arith, len-is t, len-is u, ap length p.bytes, length-append (bytes_of t) x) }
+
+-- the list is as long as what is written and the room together
+pub list-long : (t : Text) → length t.list.now ≡ length (bytes_of t) + room_of t
+unfolding bytes_of room_of
+list-long t = omega (arith, t.within, length-take-le t.len t.list.now t.within)
 
 -- a word and the byte after it, and then the rest of the line
 pub word-then : {a b : ℕ} {l : List ℕ} {t u v : Text} (w : List ℕ) (x : ℕ) → Put a (w ++ (x ∷ [])) t u → Put b l u v → Put (a + b) (w ++ (x ∷ l)) t v
@@ -58,7 +103,7 @@ module _ (month : ℕ) (rights report : List ℕ) (t : Text) where
 
   pub lines_none : Put 0 (so_far 0) t t
   unfolding right_lines
-  lines_none = record { bytes = sym (append-nil t.bytes); room = omega arith; within = omega arith }
+  lines_none = put_none t
 
   pub lines_more : (i : ℕ) (u v : Text) → i < right_count rights → Put (126 * i) (so_far i) t u → Put 126 (right_line month (right_of rights i) report i) u v → Put (126 * (i + 1)) (so_far (i + 1)) t v
   unfolding right_lines

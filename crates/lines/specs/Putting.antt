@@ -4,13 +4,15 @@ use Rattle.places.specs.Report.{evaporation_place, report_end}
 use Rattle.records.specs.declared.bodies.Bodies.{Bodies}
 use Rattle.records.specs.Records.{rows_of, reservoir_count, right_count}
 use Rattle.boards.specs.Bodies.{Bounded}
-use Rattle.lines.specs.Texts.{Text}
+use Rattle.lines.specs.declared.text.Text.{Text}
+use Rattle.lines.specs.Texts.{bytes_of, room_of}
 
--- A line was added: what stood before it is kept, and of the room at most `most` bytes are taken.
+-- A line was added, in the list that was lent: what stood before it is kept, and of the room at most `most` bytes are taken.
 pub record Put (most : ℕ) (line : List ℕ) (t t' : Text) : Type 0 where
-  pub bytes : t'.bytes ≡ t.bytes ++ line
-  pub room : t'.room + length line ≡ t.room
+  pub bytes : bytes_of t' ≡ bytes_of t ++ line
+  pub room : room_of t' + length line ≡ room_of t
   pub within : length line ≤ most
+  pub same_list : t'.list.ghost_name ≡ t.list.ghost_name
 
 -- The same in the list of a text: its bytes go from a place on, and what stands before it is kept. It ends at the place r.
 pub record PutAt (at : ℕ) (text o o' : List ℕ) (r : ℕ) : Type 0 where
@@ -31,4 +33,4 @@ pub record CanList (w : Bodies) (board report : List ℕ) (t : Text) : Type 0 wh
   pub told : report_end (right_count w.rights.now) (rows_of w.stations.now) (reservoir_count w.reservoirs.now) ≤ length report
   pub small : (v : ℕ) → v < reservoir_count w.reservoirs.now → get_or report (evaporation_place (right_count w.rights.now) (rows_of w.stations.now) v) 0 ≤ 2_000_000_000
   pub bounded : Bounded board
-  pub room : most_text ≤ t.room
+  pub room : most_text ≤ room_of t

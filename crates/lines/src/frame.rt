@@ -2,6 +2,7 @@
 ghost use Rattle.std.specs.Prelude.{◌≤◌};
 ghost use Rattle.answers.specs.Answers.{answer_of};
 ghost use Rattle.listing.specs.Listing.{refusal_line, header};
+ghost use Rattle.lines.specs.Texts.{room_of};
 ghost use Rattle.lines.specs.Putting.{Put};
 
 use crate::text::Text;
@@ -9,7 +10,7 @@ use answers::Answer;
 
 // The first line of every listing.
 pub fn put_header(text: &mut Text)
-    requires { 32 ≤ text.old.room }
+    requires { 32 ≤ room_of text.old }
     ensures { Put 32 header text.old text.new }
 {
     text.push(b"MONTH PERMIT RIVER STORE WHY AT\n");
@@ -17,7 +18,7 @@ pub fn put_header(text: &mut Text)
 
 // The word, the number and the place.
 pub fn put_refusal(text: &mut Text, answer: Answer)
-    requires { 50 ≤ text.old.room }
+    requires { 50 ≤ room_of text.old }
     ensures { Put 50 (refusal_line (answer_of answer)) text.old text.new }
 {
     text.push(b"refused ");

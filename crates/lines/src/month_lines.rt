@@ -3,6 +3,7 @@ ghost use Rattle.std.specs.Prelude.{◌≡◌, List, ℕ, ◌^◌, ◌≤◌, �
 ghost use Rattle.places.specs.Report.{lines_end};
 ghost use Rattle.records.specs.Records.{right_count, right_of, rights_of, bodies as basin_by};
 ghost use Rattle.listing.specs.Listing.{right_line, right_lines, end_line, month_text};
+ghost use Rattle.lines.specs.Texts.{room_of};
 ghost use Rattle.lines.specs.Putting.{most_text, CanList, Put};
 
 use crate::text::Text;
@@ -17,7 +18,7 @@ pub const MOST_TEXT: usize = 32365;
 
 // Of a right's record only the permit is read.
 fn put_right(text: &mut Text, month: u64, rights: &[u8], report: &[u64], i: usize)
-    requires { (126 ≤ text.old.room) × (i < right_count rights.now) × (right_count rights.now ≤ 256) × (lines_end (right_count rights.now) ≤ length report.now) }
+    requires { (126 ≤ room_of text.old) × (i < right_count rights.now) × (right_count rights.now ≤ 256) × (lines_end (right_count rights.now) ≤ length report.now) }
     ensures { Put 126 (right_line month (right_of rights.now i) report.now i) text.old text.new }
 {
     let line = line_place(i);
@@ -34,7 +35,7 @@ fn put_right(text: &mut Text, month: u64, rights: &[u8], report: &[u64], i: usiz
 // The lines of all rights, by index: by the parts of both lists (`chunks_exact` and `zip`) it proves too, but a listed month of the largest basin
 // takes 2.3 in a hundred more instructions. By the parts of the rights alone the report would still go by index, which is no plainer.
 fn put_rights(text: &mut Text, month: u64, rights: &[u8], report: &[u64])
-    requires { (32256 ≤ text.old.room) × (right_count rights.now ≤ 256) × (lines_end (right_count rights.now) ≤ length report.now) }
+    requires { (32256 ≤ room_of text.old) × (right_count rights.now ≤ 256) × (lines_end (right_count rights.now) ≤ length report.now) }
     ensures { Put 32256 (right_lines month (rights_of rights.now) report.now (right_count rights.now)) text.old text.new }
 {
     let n = rights.len() / 76;
@@ -52,7 +53,7 @@ fn evaporation_sum(losses: &[u64]) -> u64
 }
 
 fn put_end(text: &mut Text, month: u64, outflow: u64, evaporation: u64, storage: u64, pending: u64)
-    requires { 109 ≤ text.old.room }
+    requires { 109 ≤ room_of text.old }
     ensures { Put 109 (end_line month outflow evaporation storage pending) text.old text.new }
 {
     text.number(month);

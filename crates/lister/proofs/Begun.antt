@@ -21,12 +21,13 @@ use Rattle.answers.proofs.Answers.{file-accepted}
 use Rattle.answers.proofs.Numbered.{clear_none, settled-some, file-numbered}
 use Rattle.fresh.proofs.Start.{fresh-can}
 use Rattle.listing.specs.Listing.{refusal_line, header}
-use Rattle.lines.specs.Texts.{Text}
+use Rattle.lines.specs.declared.text.Text.{Text}
+use Rattle.lines.specs.Texts.{bytes_of, room_of}
 use Rattle.lines.specs.Putting.{Put}
 use Rattle.listing.specs.Run.{Step, begin}
 use Rattle.lines.proofs.Texts.{put_then, list_kept}
 use Rattle.lister.specs.declared.Listing.{Listing}
-use Rattle.lister.specs.Lister.{standing, opening, Opened, InOrder}
+use Rattle.lister.specs.Lister.{standing, text_of, opening, Opened, InOrder}
 
 or-none : (v : Option Answer) → or_else v None ≡ v
 unfolding or_else
@@ -50,19 +51,19 @@ module _ (f bd bd' : List ℕ) (size : length bd ≡ board_length) (a : Answer) 
   answer-is = ap (λ (x : Fresh). x.answer) by-file ∙ settled-answer (file_refusal f) f bd
 
   -- The header is put into an empty text, and then l is made.
-  module _ {t u : Text} {out : List ℕ} (empty : t.bytes ≡ []) (room : t.room ≡ length out) (head : Put 32 header t u) (l : Listing) (file : l.file.now ≡ f) (board : l.board.now ≡ bd')
+  module _ {t u : Text} {out : List ℕ} (empty : bytes_of t ≡ []) (room : room_of t ≡ length out) (head : Put 32 header t u) (l : Listing) (file : l.file.now ≡ f) (board : l.board.now ≡ bd')
       (report : List ℕ) (report_kept : l.report.now ≡ report) (months : l.months ≡ 0) where
     -- all that is put
-    opened : {most : ℕ} {line : List ℕ} (o : Step) → most ≤ 82 → Put most line t l.text → record { text = line; standing = standing l; more = l.more } ≡ o → o ≡ opening (file_refusal f) (basin_of f) bd → Opened f bd report out l
+    opened : {most : ℕ} {line : List ℕ} (o : Step) → most ≤ 82 → Put most line t (text_of l) → record { text = line; standing = standing l; more = l.more } ≡ o → o ≡ opening (file_refusal f) (basin_of f) bd → Opened f bd report out l
     opened {line} o few p e m = record {
       equation = (λ z. record { text = (p.bytes ∙ ap (λ (x : List ℕ). x ++ line) empty) z; standing = standing l; more = l.more }) ∙ e ∙ m;
-      within = omega (arith, few, p.within, ap length p.bytes, length-append t.bytes line, ap length empty);
+      within = omega (arith, few, p.within, ap length p.bytes, length-append (bytes_of t) line, ap length empty);
       list = omega (arith, list_kept p, room, ap length empty);
       of_file = file;
       report_kept = report_kept;
     }
 
-    pub refused-open : (a.number ≡ 0 → ⊥) → l.more ≡ false → Put 50 (refusal_line a) u l.text → Opened f bd report out l
+    pub refused-open : (a.number ≡ 0 → ⊥) → l.more ≡ false → Put 50 (refusal_line a) u (text_of l) → Opened f bd report out l
     unfolding fresh_settled opening
     refused-open n more line =
         let v : file_refusal f ≡ Some a = settled-some (file_refusal f) a answer-is n in
@@ -70,12 +71,12 @@ module _ (f bd bd' : List ℕ) (size : length bd ≡ board_length) (a : Answer) 
         opened (record { text = header ++ refusal_line a; standing = record { months = 0; board = bd }; more = false }) (omega arith) (put_then head line)
         (λ z. record { text = header ++ refusal_line a; standing = record { months = months z; board = (board ∙ kept) z }; more = more z }) (rw v)
 
-    pub accepted-open : a.number ≡ 0 → l.more ≡ true → l.text ≡ u → Opened f bd report out l
+    pub accepted-open : a.number ≡ 0 → l.more ≡ true → Put 32 header t (text_of l) → Opened f bd report out l
     unfolding fresh_settled opening begin
-    accepted-open n more e =
+    accepted-open n more line =
         let v : file_refusal f ≡ None = clear_none (file_refusal f) (file-numbered f) (ap (λ (x : Answer). x.number) (sym answer-is) ∙ n) in
         let made : bd' ≡ fresh_board (basin_of f) = ap (λ (x : Fresh). x.board) (by-file ∙ ap (λ (x : Option Answer). fresh_settled x f bd) v) in
-        opened {most = 32} (record { text = header; standing = begin (basin_of f); more = true }) (omega arith) (rw e head)
+        opened {most = 32} (record { text = header; standing = begin (basin_of f); more = true }) (omega arith) line
         (λ z. record { text = header; standing = record { months = months z; board = (board ∙ made) z }; more = more z }) (rw v)
 
 -- a listing that was opened and goes on is that of an accepted file, from the fresh board
@@ -83,7 +84,7 @@ pub opened-on : {f bd report out : List ℕ} {l : Listing} → Opened f bd repor
 unfolding opening begin settled
 opened-on {f} {bd} {l} w more = go (file_refusal f) refl w.equation
   where
-    go : (v : Option Answer) → file_refusal f ≡ v → record { text = l.text.bytes; standing = standing l; more = l.more } ≡ opening v (basin_of f) bd
+    go : (v : Option Answer) → file_refusal f ≡ v → record { text = bytes_of (text_of l); standing = standing l; more = l.more } ≡ opening v (basin_of f) bd
         → (check_of f ≡ Ok tt) × (possible (basin_of f) l.board.now ≡ true) × (l.months ≡ 0)
     go None e q =
         let acc : check_of f ≡ Ok tt = file-accepted f e in

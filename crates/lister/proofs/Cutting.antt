@@ -10,12 +10,13 @@ use Rattle.general.proofs.Tests.{absurd-bool}
 use Rattle.rules.specs.Basin.{Basin}
 use Rattle.records.specs.Records.{basin_of}
 use Rattle.filecheck.proofs.Accepted.{accepted-facts}
+use Rattle.lines.specs.Texts.{bytes_of, room_of}
 use Rattle.lines.specs.Putting.{most_text}
 use Rattle.listing.specs.Run.{sheet_bytes, Step}
 use Rattle.listing.specs.Steps.{StepMeets, Place, after, Walk, texts_of}
 use Rattle.listing.proofs.Blocks.{walk-join, texts-join}
 use Rattle.lister.specs.declared.Listing.{Listing}
-use Rattle.lister.specs.Lister.{standing, InOrder, Stepped, place_in, BlockListed, CanListBlock, SheetsListed, Moves}
+use Rattle.lister.specs.Lister.{standing, text_of, InOrder, Stepped, place_in, BlockListed, CanListBlock, SheetsListed, Moves}
 use Rattle.lister.proofs.Lent.{kept_none, kept-then}
 use Rattle.lister.proofs.Stepping.{short-ends}
 
@@ -24,7 +25,7 @@ use Rattle.lister.proofs.Stepping.{short-ends}
 module _ (block : List ℕ) (last : Bool) where
   pub block_none : (l : Listing) (u : ℕ) → InOrder l → u ≤ length block → BlockListed block last u l l u
   unfolding texts_of
-  block_none l u i used = record { steps = []; walk = refl; put = sym (append-nil l.text.bytes); in_order = i; used = used; counted = omega arith; kept = kept_none l }
+  block_none l u i used = record { steps = []; walk = refl; put = sym (append-nil (bytes_of (text_of l))); in_order = i; used = used; counted = omega arith; kept = kept_none l }
 
   pub block_one : (l l' : Listing) (u v : ℕ) (part : List ℕ) → l.more ≡ true → (last ≡ false → sheet_bytes (basin_of l.file.now) ≤ length (drop u block))
       → part ≡ take (sheet_bytes (basin_of l.file.now)) (drop u block) → drop v block ≡ drop (sheet_bytes (basin_of l.file.now)) (drop u block) → v ≡ u + length part → v ≤ length block
@@ -36,7 +37,7 @@ module _ (block : List ℕ) (last : Bool) where
       record { going = going; whole = whole; meets = subst (λ (x : List ℕ). StepMeets (basin_of l.file.now) (standing l) x o) part-is w.meets },
       λ z. record { standing = standing l'; left = sym left_is z; more = l'.more },
     );
-    put = w.put.bytes ∙ ap (λ (x : List ℕ). l.text.bytes ++ x) (sym (append-nil w.added));
+    put = w.put.bytes ∙ ap (λ (x : List ℕ). bytes_of (text_of l) ++ x) (sym (append-nil w.added));
     in_order = w.in_order;
     used = used;
     counted = omega (arith, w.counted, v-is);
@@ -51,7 +52,7 @@ module _ (block : List ℕ) (last : Bool) where
     steps = x.steps ++ y.steps;
     walk = walk-join (basin_of l.file.now) last (place_in block l u) (place_in block l₁ v) (place_in block l₂ k) x.steps y.steps x.walk
         (subst (λ (f : List ℕ). Walk (basin_of f) last (place_in block l₁ v) y.steps (place_in block l₂ k)) x.kept.file y.walk);
-    put = y.put ∙ ap (λ (t : List ℕ). t ++ texts_of y.steps) x.put ∙ append_assoc l.text.bytes (texts_of x.steps) (texts_of y.steps) ∙ ap (λ (t : List ℕ). l.text.bytes ++ t) (sym (texts-join x.steps y.steps));
+    put = y.put ∙ ap (λ (t : List ℕ). t ++ texts_of y.steps) x.put ∙ append_assoc (bytes_of (text_of l)) (texts_of x.steps) (texts_of y.steps) ∙ ap (λ (t : List ℕ). bytes_of (text_of l) ++ t) (sym (texts-join x.steps y.steps));
     in_order = y.in_order;
     used = y.used;
     counted = omega (arith, x.counted, y.counted);
@@ -96,7 +97,7 @@ cut {block} {rest} {x} {y} {u} {n} {v} h er ex en ev =
 pub record Sofar (block : List ℕ) (l l₁ : Listing) (used : ℕ) : Type 0 where
   pub listed : BlockListed block false 0 l l₁ used
   pub going : l₁.more ≡ true
-  pub none : used ≡ 0 → l₁.text.room ≡ l.text.room
+  pub none : used ≡ 0 → room_of (text_of l₁) ≡ room_of (text_of l)
 
 module _ (block : List ℕ) (l : Listing) (c : CanListBlock block l) where
   pub some_bytes : 0 < sheet_bytes (basin_of l.file.now)
@@ -107,7 +108,7 @@ module _ (block : List ℕ) (l : Listing) (c : CanListBlock block l) where
 
   module _ (l₁ : Listing) (used : ℕ) (s : Sofar block l l₁ used) where
     -- where the next sheet is not listed
-    pub sheets-end : (sheet_bytes (basin_of l.file.now) + used ≤ length block → most_text ≤ l₁.text.room → ⊥) → SheetsListed block l l₁ used
+    pub sheets-end : (sheet_bytes (basin_of l.file.now) + used ≤ length block → most_text ≤ room_of (text_of l₁) → ⊥) → SheetsListed block l l₁ used
     sheets-end n = record { listed = s.listed; sheet = λ h. go h used refl; none = s.none }
       where
         go : sheet_bytes (basin_of l.file.now) ≤ length block → (k : ℕ) → used ≡ k → 0 < k
@@ -144,7 +145,7 @@ module _ (block : List ℕ) (l : Listing) (c : CanListBlock block l) (l₁ : Lis
   listed_as false = s.listed
 
   -- where what follows the sheets is not listed
-  pub sheets-all : (last : Bool) → (last ≡ true → (sheet_bytes (basin_of l.file.now) + used ≤ length block → ⊥) → most_text ≤ l₁.text.room → l₁.more ≡ false) → Answered last l₁ used
+  pub sheets-all : (last : Bool) → (last ≡ true → (sheet_bytes (basin_of l.file.now) + used ≤ length block → ⊥) → most_text ≤ room_of (text_of l₁) → l₁.more ≡ false) → Answered last l₁ used
   sheets-all last end = (
     listed_as last,
     record { sheet = s.sheet; end = λ e z. end e (λ h. omega (arith, z, s.sheet (omega (arith, h, z)))) (omega (arith, s.none z, c.step.room)) },

@@ -8,6 +8,8 @@ use Rattle.records.specs.Records.{basin_of}
 use Rattle.boards.specs.Board.{possible}
 use Rattle.answers.specs.Answers.{file_refusal}
 use Rattle.listing.specs.Listing.{refusal_line, header}
+use Rattle.lines.specs.declared.text.Text.{Text}
+use Rattle.lines.specs.Texts.{bytes_of, room_of}
 use Rattle.lines.specs.Putting.{most_text, Put}
 use Rattle.listing.specs.Run.{sheet_bytes, Standing, Step, begin}
 use Rattle.listing.specs.Steps.{StepMeets, Place, Walk, texts_of}
@@ -17,13 +19,18 @@ use Rattle.lister.specs.declared.Listing.{Listing}
 abbrev pub standing : Listing → Standing
 standing l = record { months = l.months; board = l.board.now }
 
+-- its text
+abbrev pub text_of : Listing → Text
+text_of l = record { list = l.list; len = l.written; within = l.within }
+
 -- What every step leaves as it was: the file, which lists are lent, and how long those are whose types do not say it.
 pub record Kept (l l' : Listing) : Type 0 where
   pub file : l'.file.now ≡ l.file.now
   pub same_board : l'.board.ghost_name ≡ l.board.ghost_name
   pub same_report : l'.report.ghost_name ≡ l.report.ghost_name
+  pub same_list : l'.list.ghost_name ≡ l.list.ghost_name
   pub report : length l'.report.now ≡ length l.report.now
-  pub text : length l'.text.bytes + l'.text.room ≡ length l.text.bytes + l.text.room
+  pub text : length (bytes_of (text_of l')) + room_of (text_of l') ≡ length (bytes_of (text_of l)) + room_of (text_of l)
 
 -- ---- the start of a listing
 
@@ -34,9 +41,9 @@ opening (Some a) b board = record { text = header ++ refusal_line a; standing = 
 
 -- a listing that was opened, with its text at the start of the list out; the list for a report is as it was
 pub record Opened (f board report out : List ℕ) (l : Listing) : Type 0 where
-  pub equation : record { text = l.text.bytes; standing = standing l; more = l.more } ≡ opening (file_refusal f) (basin_of f) board
-  pub within : length l.text.bytes ≤ 82
-  pub list : length l.text.bytes + l.text.room ≡ length out
+  pub equation : record { text = bytes_of (text_of l); standing = standing l; more = l.more } ≡ opening (file_refusal f) (basin_of f) board
+  pub within : length (bytes_of (text_of l)) ≤ 82
+  pub list : length (bytes_of (text_of l)) + room_of (text_of l) ≡ length out
   pub of_file : l.file.now ≡ f
   pub report_kept : l.report.now ≡ report
 
@@ -51,14 +58,14 @@ pub record InOrder (l : Listing) : Type 0 where
 -- with it room for a month's text, and a month that can be counted
 pub record CanStep (l : Listing) : Type 0 where
   pub in_order : InOrder l
-  pub room : most_text ≤ l.text.room
+  pub room : most_text ≤ room_of (text_of l)
   pub counted : l.months < 18_446_744_073_709_551_615
 
 -- A text is added, and all that the step tells is what the rules define. The listing stays in order, so that the next step may follow, and no
 -- more months are counted than the part has bytes.
 pub record Stepped (part : List ℕ) (l l' : Listing) : Type 0 where
   pub added : List ℕ
-  pub put : Put most_text added l.text l'.text
+  pub put : Put most_text added (text_of l) (text_of l')
   pub meets : StepMeets (basin_of l.file.now) (standing l) part (record { text = added; standing = standing l'; more = l'.more })
   pub in_order : InOrder l'
   pub counted : l'.months ≤ l.months + length part
@@ -66,7 +73,7 @@ pub record Stepped (part : List ℕ) (l l' : Listing) : Type 0 where
 
 -- the line of a refusal is added, and the listing ends; nothing else has changed
 pub record Refused (a : Answer) (l l' : Listing) : Type 0 where
-  pub put : Put most_text (refusal_line a) l.text l'.text
+  pub put : Put most_text (refusal_line a) (text_of l) (text_of l')
   pub months : l'.months ≡ l.months
   pub board : l'.board.now ≡ l.board.now
   pub report : l'.report.now ≡ l.report.now
@@ -84,7 +91,7 @@ place_in block l used = record { standing = standing l; left = drop used block; 
 pub record BlockListed (block : List ℕ) (last : Bool) (u : ℕ) (l l' : Listing) (v : ℕ) : Type 0 where
   pub steps : List Step
   pub walk : Walk (basin_of l.file.now) last (place_in block l u) steps (place_in block l' v)
-  pub put : l'.text.bytes ≡ l.text.bytes ++ texts_of steps
+  pub put : bytes_of (text_of l') ≡ bytes_of (text_of l) ++ texts_of steps
   pub in_order : InOrder l'
   pub used : v ≤ length block
   pub counted : l'.months + u ≤ l.months + v
@@ -105,4 +112,4 @@ pub record Moves (b : Basin) (block : List ℕ) (last : Bool) (l : Listing) (use
 pub record SheetsListed (block : List ℕ) (l l' : Listing) (used : ℕ) : Type 0 where
   pub listed : BlockListed block false 0 l l' used
   pub sheet : sheet_bytes (basin_of l.file.now) ≤ length block → 0 < used
-  pub none : used ≡ 0 → l'.text.room ≡ l.text.room
+  pub none : used ≡ 0 → room_of (text_of l') ≡ room_of (text_of l)

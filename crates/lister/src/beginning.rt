@@ -20,6 +20,7 @@ impl<'a, 't> Listing<'a, 't> {
         requires { 82 ≤ length out.old }
         ensures same_board { result.board.ghost_name ≡ board.entry.ghost_name }
         ensures same_report { result.report.ghost_name ≡ report.entry.ghost_name }
+        ensures same_list { result.list.ghost_name ≡ out.entry.ghost_name }
         ensures opened { Opened file.now board.old report.old out.old result }
     {
         let mut text = Text::over(out);
@@ -31,11 +32,13 @@ impl<'a, 't> Listing<'a, 't> {
                 false
             }
         };
+        let Text { list, len } = text;
         Listing {
             file,
             board,
             report,
-            text,
+            list,
+            written: len,
             months: 0,
             more,
         }

@@ -25,7 +25,7 @@ impl<'a, 't> Listing<'a, 't> {
         let size = self.sheet_size();
         let mut used = 0;
         for sheet in block.chunks_exact(size) {
-            if self.text.room() < MOST_TEXT {
+            if self.room() < MOST_TEXT {
                 return used;
             }
             self.list_part(sheet);
@@ -47,7 +47,7 @@ impl<'a, 't> Listing<'a, 't> {
         let size = self.sheet_size();
         let used = self.list_sheets(block);
         let rest = &block[used..];
-        if last && self.more && rest.len() < size && MOST_TEXT <= self.text.room() {
+        if last && self.more && rest.len() < size && MOST_TEXT <= self.room() {
             self.list_part(rest);
             return block.len();
         }

@@ -4,13 +4,13 @@ ghost use Rattle.rules.specs.Basin.{rows};
 ghost use Rattle.records.specs.Records.{basin_of};
 ghost use Rattle.answers.specs.Answers.{answer_of};
 ghost use Rattle.listing.specs.Run.{sheet_bytes};
+ghost use Rattle.lines.specs.Texts.{room_of};
 ghost use Rattle.lines.specs.Putting.{most_text};
-ghost use Rattle.lister.specs.Lister.{CanStep, Stepped, Refused};
+ghost use Rattle.lister.specs.Lister.{text_of, CanStep, Stepped, Refused};
 
 use crate::Listing;
+use crate::texts::{month_in, refusal_in};
 use answers::Answer;
-use lines::frame::put_refusal;
-use lines::month_lines::put_month;
 use month::run::run_sheet;
 use records::bodies::Bodies;
 use rules::Refusal;
@@ -19,10 +19,10 @@ use sheets::{decode, sheet_size};
 impl<'a, 't> Listing<'a, 't> {
     // A refusal is the last line of a listing.
     pub fn refuse(&mut self, answer: Answer)
-        requires { most_text ≤ self.old.text.room }
+        requires { most_text ≤ room_of (text_of self.old) }
         ensures { Refused (answer_of answer) self.old self.new }
     {
-        put_refusal(&mut self.text, answer);
+        self.written = refusal_in(self.list, self.written, answer);
         self.more = false;
     }
 
@@ -37,7 +37,14 @@ impl<'a, 't> Listing<'a, 't> {
         decode(sheet, runoff);
         match run_sheet(&bodies, runoff, board, report) {
             Ok(_) => {
-                put_month(&mut self.text, self.months, &bodies, board, report);
+                self.written = month_in(
+                    self.list,
+                    self.written,
+                    self.months,
+                    &bodies,
+                    board,
+                    report,
+                );
                 self.months += 1;
                 self.more = true;
             }

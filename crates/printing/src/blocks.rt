@@ -2,7 +2,7 @@
 ghost use Rattle.std.specs.Prelude.{◌≡◌, false, cond, ltb};
 ghost use Rattle.printing.specs.Going.{CanRead, Went};
 
-use crate::output::{Unwritten, make_room};
+use crate::output::{Unwritten, room_for_month};
 use lister::Listing;
 
 // Whether nothing more can be listed before more is read: no whole sheet is left, and the file does not end here.
@@ -25,7 +25,7 @@ pub fn list_read<R: Print + Eprint>(
     let size = listing.sheet_size();
     let mut rest = block;
     while listing.more && !used_up(last, rest.len(), size) {
-        make_room(rt, &mut listing.text)?;
+        room_for_month(rt, listing)?;
         let used = listing.list_block(rest, last);
         rest = &rest[used..];
     }

@@ -23,5 +23,5 @@ pub fn with_listing<R: Print + Eprint, F: FnOnce(&mut Listing<'_, '_>) -> Result
     if listing.more {
         list(&mut listing)?;
     }
-    write(rt, listing.text.bytes())
+    write(rt, listing.bytes())
 }

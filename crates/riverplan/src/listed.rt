@@ -23,26 +23,28 @@ pub fn list_months<'t>(
     if out.len() < MOST_TEXT {
         return &[];
     }
-    let mut text = Text::over(out);
     match stock(file, board) {
         Ok(_) => {
             // A board of another length has no stock.
             let Some(board) = board.as_mut_array() else {
-                return text.into_bytes();
+                return &[];
             };
             let mut report = [0u64; MOST_REPORT];
             let mut listing = Listing {
                 file,
                 board,
                 report: &mut report,
-                text,
+                list: out,
+                written: 0,
                 months: u64::from(first),
                 more: true,
             };
             listing.list_block(sheets, false);
-            listing.text.into_bytes()
+            let Listing { list, written, .. } = listing;
+            &list[..written]
         }
         Err(refusal) => {
+            let mut text = Text::over(out);
             put_refusal(&mut text, Answer::from(refusal));
             text.into_bytes()
         }

@@ -25,7 +25,7 @@ fn list_fresh<R: Print + Eprint>(
         return;
     };
     let listing = Listing::open(file, board, &mut [], out);
-    let _ = write(rt, listing.text.bytes());
+    let _ = write(rt, listing.bytes());
 }
 
 // The same for a plan.

@@ -1,35 +1,34 @@
 -- What the program keeps from year to year. Assumes nothing.
 use mathlib.Core.Bool.{true}
 use mathlib.Core.List.{List}
-use mathlib.Core.Path.{◌≡◌, refl, ap, ◌∙◌}
-use Prim.Native.Nat.{ℕ, ◌+◌, ◌≤◌}
+use mathlib.Core.Path.{◌≡◌, ap, ◌∙◌}
+use Prim.Native.Nat.{ℕ, ◌≤◌}
 use native.Mathlib.Omega.{arith}
 use lib.ListN.{length}
 use Rattle.records.specs.Records.{basin_of}
 use Rattle.boards.specs.Board.{possible}
-use Rattle.lines.specs.Texts.{Text}
 use Rattle.yearly.specs.Years.{part_left}
 use Rattle.lister.specs.declared.Listing.{Listing}
 use Rattle.lister.specs.Lister.{Kept, InOrder}
 use Rattle.lister.proofs.Lent.{kept-then, ordered}
 use Rattle.yearly.specs.Opening.{YearOpened}
 use Rattle.yearly.proofs.Opened.{opened-months, opened-board, left-most}
-use Rattle.printing.specs.Going.{Going, CanRead, Went}
+use Rattle.printing.specs.Going.{Going, CanRead, Went, RoomMade}
 use Rattle.riveryear.specs.Going.{CanListYears, YearWent}
 
 -- a year is opened after room was made in the text
-module _ {book : List ℕ} {y : ℕ} {l l₂ : Listing} {t : Text} (c : CanListYears 1 l) (list : length t.bytes + t.room ≡ length l.text.bytes + l.text.room) (w : YearOpened book y (record l { text = t }) l₂) where
+module _ {book : List ℕ} {y : ℕ} {l l₁ l₂ : Listing} (c : CanListYears 1 l) (made : RoomMade l l₁) (w : YearOpened book y l₁ l₂) where
   kept : Kept l l₂
-  kept = kept-then (record { file = refl; same_board = refl; same_report = refl; report = refl; text = list }) w.kept
+  kept = kept-then made.kept w.kept
 
   in_order : InOrder l₂
-  in_order = ordered c.going.in_order kept (ap (λ (b : List ℕ). possible (basin_of l.file.now) b) (opened-board w) ∙ c.going.in_order.can)
+  in_order = ordered c.going.in_order kept (ap (λ (b : List ℕ). possible (basin_of l.file.now) b) (opened-board w ∙ made.board) ∙ c.going.in_order.can)
 
   going : Going l₂
   going = record { in_order = in_order; room = omega (arith, c.going.room, kept.text) }
 
   same-months : l₂.months ≡ l.months
-  same-months = opened-months w
+  same-months = opened-months w ∙ made.months
 
   pub year-ended : YearWent l l₂
   year-ended = record { going = going; counted = omega (arith, same-months); kept = kept }

@@ -6,7 +6,7 @@ ghost use Rattle.riveryear.specs.Going.{CanListYears, YearWent};
 use crate::words::year_asked;
 use lister::Listing;
 use printing::blocks::list_read;
-use printing::output::{Unwritten, make_room};
+use printing::output::{Unwritten, room_for_month};
 use std::rt::Env;
 use yearly::open_year;
 
@@ -20,7 +20,7 @@ fn list_year<R: Print + Eprint>(
     requires { CanListYears 1 listing.old }
     ensures { YearWent listing.old listing.new }
 {
-    make_room(rt, &mut listing.text)?;
+    room_for_month(rt, listing)?;
     match open_year(listing, book, year) {
         Some(sheets) => list_read(rt, listing, sheets, false),
         None => Ok(()),

@@ -1,7 +1,7 @@
 -- A year of a runoff book in a listing. Assumes nothing.
 use Rattle.std.specs.Prelude.{Option, None, Some}
 use mathlib.Core.Bool.{true}
-use mathlib.Core.List.{List, [], append-nil}
+use mathlib.Core.List.{List, []}
 use mathlib.Core.Path.{◌≡◌, refl, sym, ap, ◌∙◌}
 use Prim.Native.Nat.{ℕ, ◌*◌, ◌≤◌}
 use native.Mathlib.Nat.{mul-le-mul}
@@ -24,7 +24,7 @@ use Rattle.listing.specs.Run.{sheet_bytes, Standing, Step}
 use Rattle.yearly.specs.Years.{least_list, year_refusal, part_left}
 use Rattle.lister.specs.declared.Listing.{Listing}
 use Rattle.lister.specs.Lister.{standing, Refused}
-use Rattle.lister.proofs.Lent.{kept_none}
+use Rattle.lister.proofs.Lent.{like-put, like-kept, like-refused}
 use Rattle.yearly.specs.Opening.{year_opening, YearOpened}
 use Rattle.yearly.proofs.Years.{year-found}
 
@@ -44,9 +44,9 @@ module _ (book : List ℕ) (y : ℕ) (l : Listing) where
     pub year-there : v ≡ None → Found l.file.now book y
     year-there e = year-found l.file.now book (standing l) y (sym (judged (least_list (basin_of l.file.now)) long-enough) ∙ e)
 
-    pub year-refused : (a : Answer) → v ≡ Some a → (l' : Listing) → Refused a l l' → YearOpened book y l l'
+    year-ended : (a : Answer) → v ≡ Some a → (l' : Listing) → Refused a l l' → YearOpened book y l l'
     unfolding year_opening
-    year-refused a e l' w = record {
+    year-ended a e l' w = record {
       added = refusal_line a;
       put = w.put;
       equation = (λ z. record { text = refusal_line a; standing = record { months = w.months z; board = w.board z }; more = w.more z }) ∙ rw e at opens;
@@ -54,14 +54,17 @@ module _ (book : List ℕ) (y : ℕ) (l : Listing) where
       kept = w.kept;
     }
 
-    pub year-accepted : v ≡ None → l.more ≡ true → YearOpened book y l l
+    pub year-refused : (a : Answer) → v ≡ Some a → (h : l.written ≤ length l.list.now) (l' : Listing) → Refused a (record l { within = h }) l' → YearOpened book y l l'
+    year-refused a e h l' w = year-ended a e l' (like-refused l h w)
+
+    pub year-accepted : v ≡ None → l.more ≡ true → (h : l.written ≤ length l.list.now) → YearOpened book y l (record l { within = h })
     unfolding year_opening
-    year-accepted e more = record {
+    year-accepted e more h = record {
       added = [];
-      put = record { bytes = sym (append-nil l.text.bytes); room = omega arith; within = omega arith };
+      put = like-put l h;
       equation = (λ z. record { text = []; standing = standing l; more = more z }) ∙ rw e at opens;
       report = refl;
-      kept = kept_none l;
+      kept = like-kept l h;
     }
 
 -- no month is listed by it, and the board is as it was

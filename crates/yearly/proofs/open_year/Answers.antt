@@ -5,6 +5,7 @@ use Prim.Native.Nat.{◌*◌, ◌≤◌}
 use borrow.Author.Rules.{rules}
 use lib.ListN.{length}
 use Rattle.places.specs.Board.{month_at}
+use Rattle.lines.specs.Texts.{room_of}
 use Rattle.yearly.proofs.Opened.{year-there, year-refused, year-accepted, first_small, first-within}
 use Rattle.yearly.proofs.open_year.Goals as goal
 
@@ -27,7 +28,11 @@ slice_bounds-result-count c =
     omega (arith, first-within l.file.now l.board.now c.requires.in_order c.sheet_size.ensures refl s.book.now s.year (year-there s.book.now s.year l e.refused refl) e.part)
 
 pub returns-in-Ok-clause-opened : goal.returns-in-Ok-clause-opened
-returns-in-Ok-clause-opened c = year-accepted c.args.book.now c.args.year c.args.listing.now c.in-Ok.ensures.refused refl c.requires.going
+returns-in-Ok-clause-opened c = year-accepted c.args.book.now c.args.year c.args.listing.now c.in-Ok.ensures.refused refl c.requires.going _
 
 pub returns-in-Err-clause-opened : goal.returns-in-Err-clause-opened
-returns-in-Err-clause-opened c = year-refused c.args.book.now c.args.year c.args.listing.now c.in-Err.ensures.refused _ refl _ (rw c.from.ensures at c.refuse.ensures)
+returns-in-Err-clause-opened c = year-refused c.args.book.now c.args.year c.args.listing.now c.in-Err.ensures.refused _ refl _ _ (rw c.from.ensures at c.refuse.ensures)
+
+pub refuse-requires : goal.refuse-requires
+unfolding room_of
+refuse-requires c = c.requires.room

@@ -2,7 +2,7 @@
 use mathlib.Core.List.{[], ◌∷◌, ◌++◌}
 use Rattle.rules.specs.Answers.{Answer}
 use Rattle.listing.specs.Listing.{space, decimal_text, line_of, refused_word, refusal_line}
-use Rattle.lines.specs.Texts.{Text}
+use Rattle.lines.specs.declared.text.Text.{Text}
 use Rattle.lines.specs.Putting.{Put}
 use Rattle.lines.proofs.Texts.{word-then}
 use Rattle.lines.proofs.frame.put_refusal.Goals as goal

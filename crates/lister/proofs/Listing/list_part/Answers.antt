@@ -8,7 +8,7 @@ use Rattle.lister.proofs.Lent.{few_rows, part-ended, part-short}
 use Rattle.lister.proofs.Listing.list_part.Goals as goal
 
 pub returns-then-is_empty : goal.returns-then-is_empty
-returns-then-is_empty c = part-ended c.args.part.now c.args.self.now c.requires (search rules)
+returns-then-is_empty c = part-ended c.args.part.now c.args.self.now c.requires (search rules) _
 
 pub returns-then-part-sheet_size : goal.returns-then-part-sheet_size
 returns-then-part-sheet_size c =
