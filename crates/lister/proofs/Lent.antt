@@ -58,9 +58,6 @@ ordered {l'} i k can = record {
   told = omega (arith, i.told, k.report, ap (λ (f : List ℕ). report_length (basin_of f)) k.file);
 }
 
-pub ordered-same : {l l' : Listing} → InOrder l → Kept l l' → l'.board.now ≡ l.board.now → InOrder l'
-ordered-same {l} i k same = ordered i k (ap (λ (b : List ℕ). possible (basin_of l.file.now) b) same ∙ i.can)
-
 -- a listing of the same fields, of which it was proved anew that its text stands in its list
 module _ (l : Listing) (w : l.written ≤ length l.list.now) where
   abbrev like : Listing

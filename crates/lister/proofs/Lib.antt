@@ -2,3 +2,4 @@ pub mod Begun
 pub mod Stepping
 pub mod Lent
 pub mod Cutting
+pub mod Passing

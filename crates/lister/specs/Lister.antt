@@ -113,3 +113,14 @@ pub record SheetsListed (block : List ℕ) (l l' : Listing) (used : ℕ) : Type 
   pub listed : BlockListed block false 0 l l' used
   pub sheet : sheet_bytes (basin_of l.file.now) ≤ length block → 0 < used
   pub none : used ≡ 0 → room_of (text_of l') ≡ room_of (text_of l)
+
+-- How far a block is listed, by what is left of it: steps lead over the bytes before.
+pub record Passed (block : List ℕ) (last : Bool) (left : List ℕ) (l l' : Listing) : Type 0 where
+  pub steps : List Step
+  pub walk : Walk (basin_of l.file.now) last (place_in block l 0) steps (record { standing = standing l'; left = left; more = l'.more })
+
+-- As far as it can be: where the listing goes on, so does the file, and less than a sheet is left.
+pub record PassedAll (block : List ℕ) (last : Bool) (l l' : Listing) : Type 0 where
+  pub left : List ℕ
+  pub passed : Passed block last left l l'
+  pub end : l'.more ≡ true → (last ≡ false) × (length left < sheet_bytes (basin_of l.file.now))

@@ -1,5 +1,6 @@
 // A block of sheets, listed and written.
-ghost use Rattle.std.specs.Prelude.{◌≡◌, false, cond, ltb};
+ghost use Rattle.std.specs.Prelude.{◌≡◌, false, cond, ltb, IfOk};
+ghost use Rattle.lister.specs.Lister.{PassedAll};
 ghost use Rattle.printing.specs.Going.{CanRead, Went};
 
 use crate::output::{Unwritten, room_for_month};
@@ -20,7 +21,8 @@ pub fn list_read<R: Print + Eprint>(
     last: bool,
 ) -> Result<(), Unwritten>
     requires { CanRead block.now listing.old }
-    ensures { Went block.now listing.old listing.new }
+    ensures went { Went block.now listing.old listing.new }
+    ensures whole_sheets { IfOk result (λ _. PassedAll block.now last listing.old listing.new) }
 {
     let size = listing.sheet_size();
     let mut rest = block;

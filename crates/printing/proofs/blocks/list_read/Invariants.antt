@@ -4,7 +4,7 @@ use Rattle.printing.proofs.Keeping.{Listed}
 use Rattle.printing.proofs.blocks.list_read.Given as goal
 
 abbrev pub invariant-loop-listing : goal.invariant-loop-listing
-invariant-loop-listing g l = Listed l.block l.rest l.fn.listing l.listing
+invariant-loop-listing g l = Listed l.block l.last l.rest l.fn.listing l.listing
 
 abbrev pub decreases-loop-listing : goal.decreases-loop-listing
 decreases-loop-listing g l = length l.rest + cond l.listing.more 1 0

@@ -10,4 +10,4 @@ list_read-requires g c =
     can-read c.requires c.room_for_month.ensures.made c.open_year.ensures.opened _ c.in-Some.ensures.sheets.1 c.in-Some.ensures.sheets.0
 
 pub returns-in-Some : goal.returns-in-Some
-returns-in-Some g c = year-went c.requires c.room_for_month.ensures.made c.open_year.ensures.opened _ c.in-Some.ensures.sheets.1 _ c.list_read.ensures
+returns-in-Some g c = year-went c.requires c.room_for_month.ensures.made c.open_year.ensures.opened _ c.in-Some.ensures.sheets.1 _ c.list_read.ensures.went
