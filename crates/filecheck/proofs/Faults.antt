@@ -17,15 +17,17 @@ use native.Mathlib.Nat.{sub-zero}
 use native.Mathlib.Omega.{arith}
 use Rattle.general.specs.Tests.{first_at, first_fault}
 use Rattle.general.proofs.Tests.{both_of, lt_of}
-use Rattle.general.proofs.Search.{no-fault, fault-found}
+use Rattle.general.proofs.Search.{no-fault, fault-found, first-within}
 use Rattle.general.proofs.Loops.{search-here, search-on, search-over}
 use Rattle.rules.specs.declared.Refusal.{Refusal}
 use Rattle.rules.specs.declared.Refusal.TheVariants.{Layout, Station, Reservoir, Pattern, Right}
-use Rattle.rules.specs.Answers.{Verdict}
+use Rattle.rules.specs.Answers.{Verdict, place_of}
 use Rattle.sections.specs.File.{layout_ok, section_of}
 use Rattle.records.specs.Records.{rows_of, reservoir_count, reservoir_record, pattern_count, right_count}
 use Rattle.filerules.specs.FileRules.{station_ok, reservoir_plain, reservoir_ok, pattern_ok, right_ok}
 use Rattle.records.specs.Table.{GoodRows}
+use Rattle.sections.proofs.Parts.{laid}
+use Rattle.records.proofs.Counted.{rows-counted, reservoirs-counted, patterns-counted, rights-counted}
 use Rattle.filecheck.specs.Check.{only_if, fault_verdict, stations_verdict, reservoirs_verdict, patterns_verdict, rights_verdict, bodies_verdict, check_of}
 
 -- the verdict on the records i, i + 1, .., n − 1 of a body
@@ -54,7 +56,7 @@ module _ (r : ℕ → Refusal) (ok : ℕ → Bool) (n : ℕ) where
     unfolding verdict_from fault_verdict
     verdict-here h e = sym (ap (fault_verdict r) (search-here _ n i h (ap not e)))
 
-    verdict-done : n ≤ i → Ok tt ≡ verdict_from r ok n i
+    pub verdict-done : n ≤ i → Ok tt ≡ verdict_from r ok n i
     unfolding verdict_from fault_verdict
     verdict-done h = sym (ap (fault_verdict r) (search-over _ n i h))
 
@@ -126,3 +128,47 @@ check-refuses f e = rw e
 pub check-goes-on : (f : List ℕ) → layout_ok f ≡ true → check_of f ≡ bodies_verdict (section_of f 0) (section_of f 1) (section_of f 2) (section_of f 3)
 unfolding check_of
 check-goes-on f e = rw e
+
+-- ---- the place of a refusal is the number of a record, so it is small
+
+abbrev pub PlaceMost : ℕ → Verdict → Type 0
+PlaceMost m (Ok u) = Unit {0}
+PlaceMost m (Err r) = place_of r ≤ m
+
+fault-place : (r : ℕ → Refusal) (n m : ℕ) (ok : ℕ → Bool) → ((i : ℕ) → place_of (r i) ≡ i) → n ≤ m → PlaceMost m (fault_verdict r (first_fault n ok))
+unfolding first_fault fault_verdict
+fault-place r n m ok at h = go (first_at n 0 bad) refl
+  where
+    bad : ℕ → Bool
+    bad i = not (ok i)
+
+    go : (o : Option ℕ) → first_at n 0 bad ≡ o → PlaceMost m (fault_verdict r o)
+    go None e = tt
+    go (Some i) e = omega (arith, at i, first-within bad n 0 i e)
+
+and-place : (m : ℕ) (v w : Verdict) → PlaceMost m v → PlaceMost m w → PlaceMost m (result_and v w)
+and-place m (Ok u) w a b = b
+and-place m (Err r) w a b = a
+
+module _ (st rs ps s : List ℕ) (m : ℕ) where
+  bodies-place : rows_of st ≤ m → reservoir_count rs ≤ m → pattern_count ps ≤ m → right_count s ≤ m → PlaceMost m (bodies_verdict st rs ps s)
+  unfolding bodies_verdict stations_verdict reservoirs_verdict patterns_verdict rights_verdict
+  bodies-place a b c d =
+      and-place m _ _ (fault-place Station (rows_of st) m (station_ok st) (λ i. refl) a)
+      (and-place m _ _ (fault-place Reservoir (reservoir_count rs) m (reservoir_ok st rs) (λ i. refl) b)
+      (and-place m _ _ (fault-place Pattern (pattern_count ps) m (pattern_ok ps) (λ i. refl) c)
+      (fault-place Right (right_count s) m (right_ok st rs (pattern_count ps) s) (λ i. refl) d)))
+
+pub place-most : (f : List ℕ) → PlaceMost 256 (check_of f)
+place-most f = go (layout_ok f) refl
+  where
+    go : (b : Bool) → layout_ok f ≡ b → PlaceMost 256 (check_of f)
+    go true e =
+        let l = laid f e in
+        rw (check-goes-on f e)
+        (bodies-place (section_of f 0) (section_of f 1) (section_of f 2) (section_of f 3) 256
+        (omega (arith, l.stations, rows-counted f e))
+        (omega (arith, l.reservoirs, reservoirs-counted f e))
+        (omega (arith, l.patterns, patterns-counted f e))
+        (omega (arith, l.rights, rights-counted f e)))
+    go false e = rw (← check-refuses f e) (omega arith)

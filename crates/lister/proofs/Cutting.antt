@@ -64,7 +64,7 @@ walk-last : (b : Basin) (from to : Place) (os : List Step) → Walk b false from
 walk-last b from to [] w = w
 walk-last b from to (o ∷ os) w = (record { going = w.0.going; whole = λ e. absurd-bool refl e; meets = w.0.meets }, walk-last b (after b from o) to os w.1)
 
-block_last : {block : List ℕ} {u v : ℕ} {l l' : Listing} → BlockListed block false u l l' v → BlockListed block true u l l' v
+pub block_last : {block : List ℕ} {u v : ℕ} {l l' : Listing} → BlockListed block false u l l' v → BlockListed block true u l l' v
 block_last {block} {u} {v} {l} {l'} w = record {
   steps = w.steps;
   walk = walk-last (basin_of l.file.now) (place_in block l u) (place_in block l' v) w.steps w.walk;

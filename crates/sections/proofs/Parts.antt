@@ -12,7 +12,7 @@ use Rattle.general.specs.Tests.{◌and◌}
 use Rattle.general.proofs.Tests.{both_of, between-of, eq_of, le_of}
 use Rattle.sections.specs.File.{offset_of, count_of, size_of, end_of, counts_ok, packed, layout_ok, section_of}
 
-section-part : (f : List ℕ) → 32 ≤ length f → (w : ℕ) → end_of f w ≤ length f → section_of f w ≡ take (end_of f w - offset_of f w) (drop (offset_of f w) f)
+pub section-part : (f : List ℕ) → 32 ≤ length f → (w : ℕ) → end_of f w ≤ length f → section_of f w ≡ take (end_of f w - offset_of f w) (drop (offset_of f w) f)
 unfolding section_of ◌and◌
 section-part f h w k = rw (le-leb 32 (length f) h, le-leb (end_of f w) (length f) k, add-sub_cancel_left)
 

@@ -1,6 +1,6 @@
 -- The sheets of a year's body, and the first of them that is over its limit. Assumes nothing.
 use Rattle.std.specs.Prelude.{Option, None, Some}
-use mathlib.Core.Path.{◌≡◌, sym, ap, ◌∙◌}
+use mathlib.Core.Path.{◌≡◌, refl, sym, ap, ◌∙◌}
 use mathlib.Core.List.{List, [], ◌∷◌}
 use Prim.Native.Nat.{ℕ, zero, suc, ◌+◌, ◌≤◌, ◌<◌}
 use native.Mathlib.Numerals.{add-one}
@@ -16,6 +16,7 @@ use Rattle.rules.specs.Tally.{over_limit, over_answer}
 use Rattle.rules.proofs.Answers.{or-first, or-second}
 use Rattle.sheets.specs.Sheets.{sheet_part, sheet_at}
 use Rattle.sheets.proofs.Sheets.{sheet-length}
+use Rattle.answers.specs.Answers.{settled}
 use Rattle.month.proofs.Settling.{over-none}
 use Rattle.book.specs.Book.{body_size}
 use Rattle.years.specs.Years.{sheets_in}
@@ -80,3 +81,14 @@ module _ (n : ℕ) (body : List ℕ) where
   none_from k h e =
       let both : or_else (over_at k) (over_in (k + 1)) ≡ None = sym (over-from k h) ∙ e in
       (over-none (over_limit (sheet_at n body k)) (or-first (over_at k) (over_in (k + 1)) both), or-second (over_at k) (over_in (k + 1)) both)
+
+clear_or : (o : Option ℕ) (later : Option Answer) → ((settled later).number ≡ 0 → later ≡ None) → (settled (or_else (over_answer o) later)).number ≡ 0 → or_else (over_answer o) later ≡ None
+unfolding or_else over_answer settled
+clear_or None later h q = h q
+clear_or (Some i) later h q = absurd (omega (arith, q))
+
+-- number 0 says that no sheet is over its limit
+pub clear_first : (rs : List (List ℕ)) → (settled (first_over rs)).number ≡ 0 → first_over rs ≡ None
+unfolding first_over
+clear_first [] e = refl
+clear_first (r ∷ rs) e = clear_or (over_limit r) (first_over rs) (clear_first rs) e

@@ -1,5 +1,8 @@
 -- `book::contents::Table::listed_body` meets its contract. Assumes nothing.
 use Rattle.std.proofs.Common.{sym, ◌∙◌, rules, tests}
+use Prim.Native.Nat.{◌<◌}
+use native.Mathlib.Omega.{arith}
+use Rattle.book.specs.Book.{year_count}
 use Rattle.book.proofs.Bodies.{listed, listed-within}
 use Rattle.book.proofs.contents.Table.listed_body.Goals as goal
 
@@ -12,7 +15,8 @@ pub body_at-requires : goal.body_at-requires
 body_at-requires c =
     let t = c.args.self.now in
     let e = listed t.book.now c.args.year _ _ c.year_count.ensures c.find.ensures.ran (λ x q h. search (rules, tests)) (λ x q h. search (rules, tests)) in
-    (c.requires, listed-within t.rows t.book.now c.args.year _ (sym e ∙ c.in_ok-i.was))
+    let w : c.in_ok-i.i < year_count t.book.now = listed-within t.rows t.book.now c.args.year _ (sym e ∙ c.in_ok-i.was) in
+    (c.requires, omega (arith, w))
 
 pub returns : goal.returns
 returns c =
