@@ -2,6 +2,7 @@
 // the worked October's sheet, and 1890, whose March is over the limit at the second and third stations.
 use crate::october::{YEAR_REPORTS, thirteenth};
 use book::find::find_year;
+use places::board::BOARD_LENGTH;
 use printing::saying::{say, say_stock};
 use std::io;
 use years::run::run_year;
@@ -53,10 +54,12 @@ fn refused_runs<R: Print>(
     board: &mut [u64],
     reports: &mut [u64],
 ) -> io::Result<()> {
+    let mut no_month = [0; BOARD_LENGTH];
+    thirteenth(&mut no_month);
     say(
         rt,
         b"run of 1890, board of a thirteenth month:",
-        run_year(file, book, 1890, &mut thirteenth(), reports),
+        run_year(file, book, 1890, &mut no_month, reports),
     )?;
     say(
         rt,

@@ -3,7 +3,7 @@
 use crate::october::{REPORT, RIGHTS, SHEET, YEAR_REPORTS, fresh_board, thirteenth};
 use crate::saying::{say_months, say_right};
 use month::month;
-use places::board::WORDS;
+use places::board::{BOARD_LENGTH, WORDS};
 use printing::saying::say;
 use std::io;
 use stock::months::short_months;
@@ -11,27 +11,29 @@ use years::run::run_year;
 
 // Refusals 1, 6 and 7; the last for a board of a thirteenth month.
 fn refused<R: Print>(rt: &R, file: &[u8]) -> io::Result<()> {
-    let thirteenth = thirteenth();
+    let mut no_month = [0; BOARD_LENGTH];
+    thirteenth(&mut no_month);
     say_months(
         rt,
         b"short months, no file:",
-        short_months(&file[..0], &thirteenth, 0),
+        short_months(&file[..0], &no_month, 0),
     )?;
     say_months(
         rt,
         b"short months, board of 1225:",
-        short_months(file, &thirteenth[1..], 0),
+        short_months(file, &no_month[1..], 0),
     )?;
     say_months(
         rt,
         b"short months, board of a thirteenth month:",
-        short_months(file, &thirteenth, 0),
+        short_months(file, &no_month, 0),
     )
 }
 
 // Refusal 7 for words: the first right's with a bit more than twelve months have, and a word of a right that October lacks.
 fn wrong_words<R: Print>(rt: &R, file: &[u8]) -> io::Result<()> {
-    let mut board = fresh_board(file);
+    let mut board = [0; BOARD_LENGTH];
+    fresh_board(file, &mut board);
     let mut report = [0u64; REPORT];
     board[WORDS] = 4096;
     say_months(
@@ -68,7 +70,8 @@ fn count<R: Print>(rt: &R, file: &[u8], board: &[u64], rights: &[usize]) -> io::
 pub fn call<R: Print>(rt: &R, file: &[u8], book: &[u8]) -> io::Result<()> {
     refused(rt, file)?;
     wrong_words(rt, file)?;
-    let mut board = fresh_board(file);
+    let mut board = [0; BOARD_LENGTH];
+    fresh_board(file, &mut board);
     let mut reports = [0u64; YEAR_REPORTS];
     say(
         rt,

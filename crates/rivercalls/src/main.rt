@@ -76,13 +76,14 @@ fn wrong_numbers<R: Print>(
     report: &mut [u64],
 ) -> io::Result<()> {
     let sheet = [2000u32, 1000000001, 4294967295];
-    let mut thirteenth = thirteenth();
+    let mut no_month = [0; BOARD_LENGTH];
+    thirteenth(&mut no_month);
     say(
         rt,
         b"month, board of a thirteenth month:",
-        month(file, &sheet, &mut thirteenth, report),
+        month(file, &sheet, &mut no_month, report),
     )?;
-    say_stock(rt, file, &thirteenth)?;
+    say_stock(rt, file, &no_month)?;
     say(
         rt,
         b"month, runoff over its limit:",

@@ -28,21 +28,19 @@ pub const REPORT: usize = 4 * RIGHTS + 2 * ROWS + RESERVOIRS + 1;
 pub const YEAR_REPORTS: usize = 12 * REPORT;
 
 // The fresh board; zeros where the file is refused, since that is told by the first call and shown by all later ones. Two lines, as `riverplan` has
-// for the basin of its own.
-pub fn fresh_board(file: &[u8]) -> [u64; BOARD_LENGTH]
-    ensures { result ≡ (fresh_of file.now (replicate 1226 0)).board }
+// for the basin of its own. Here and below the board is lent: one that is answered would stand twice on the stack.
+pub fn fresh_board(file: &[u8], board: &mut [u64; BOARD_LENGTH])
+    ensures { board.new ≡ (fresh_of file.now (replicate 1226 0)).board }
 {
-    let mut board = [0; BOARD_LENGTH];
-    let _ = fresh(file, &mut board);
-    board
+    *board = [0; BOARD_LENGTH];
+    let _ = fresh(file, board);
 }
 
 // A board that no run of months can leave: its next month is a thirteenth. `riverplan` makes one too, to save it: two lines each, and no crate of the
 // engine has a use for such a board.
-pub fn thirteenth() -> [u64; BOARD_LENGTH]
-    ensures { result ≡ 12 ∷ replicate 1225 0 }
+pub fn thirteenth(board: &mut [u64; BOARD_LENGTH])
+    ensures { board.new ≡ 12 ∷ replicate 1225 0 }
 {
-    let mut board = [0; BOARD_LENGTH];
+    *board = [0; BOARD_LENGTH];
     board[MONTH] = 12;
-    board
 }

@@ -2,8 +2,9 @@
 // deep. It is the last number of the report.
 use crate::october::{REPORT, SHAPE, SHEET, fresh_board};
 use month::month;
+use places::board::BOARD_LENGTH;
 use printing::saying::{say, say_stock};
-use std::io;
+use std::io::{self, Write};
 
 // October's only pattern begins at byte 124.
 const PATTERN: usize = 124;
@@ -17,13 +18,15 @@ fn set_percents(file: &mut [u8], percents: [u8; 3]) {
 
 // The month from the fresh board: its answer and, where it is accepted, what went deep, and what it leaves.
 fn run<R: Print>(rt: &R, file: &[u8], what: &[u8]) -> io::Result<()> {
-    let mut board = fresh_board(file);
+    let mut board = [0; BOARD_LENGTH];
+    fresh_board(file, &mut board);
     let mut report = [0u64; REPORT];
     let answer = month(file, &SHEET, &mut board, &mut report);
     say(rt, what, answer)?;
     if answer.is_ok() {
         let deep = report[SHAPE.deep_place()];
-        println!(rt; "deep {deep}")?;
+        rt.write_all(b"deep")?;
+        writeln!(io::writer(rt), " {deep}")?;
         say_stock(rt, file, &board)?;
     }
     Ok(())

@@ -7,24 +7,25 @@ use filecheck::check::check;
 use files::reasons::fail;
 use files::words::{WORD_ROOM, word, word_count};
 use files::{FILE_ROOM, read_file};
-use std::io;
+use std::io::{self, Write};
 use std::rt::{Env, Files};
 
-// The functions that print fail where not all could be written. A path need not be text, so its bytes are written as they are.
+// The functions that print fail where not all could be written. A path need not be text, so its bytes are written as they are. The rest of a line
+// goes part by part too (`printing::saying` says why).
 fn print_verdict<R: Print>(rt: &R, path: &[u8], file: &[u8]) -> io::Result<()> {
     rt.write_all(path)?;
     match check(file) {
-        Ok(()) => println!(rt; " accepted"),
+        Ok(()) => writeln!(io::writer(rt), " accepted"),
         Err(refusal) => {
             let answer = Answer::from(refusal);
-            println!(rt; " refused {answer}")
+            writeln!(io::writer(rt), " refused {answer}")
         }
     }
 }
 
 fn print_unread<R: Print>(rt: &R, path: &[u8]) -> io::Result<()> {
     rt.write_all(path)?;
-    println!(rt; " cannot be read")
+    writeln!(io::writer(rt), " cannot be read")
 }
 
 // A folder opens as a file does, and only the read tells. The buffer is longer than any file that keeps the layout, so a file that is cut here

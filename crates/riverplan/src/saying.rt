@@ -3,7 +3,7 @@ ghost use Rattle.std.specs.Prelude.{◌≡◌};
 ghost use Rattle.store.specs.Calls.{save_of, recall_of, drop_of};
 
 use answers::Answer;
-use std::io;
+use std::io::{self, Write};
 use store::{drop_name, recall, save};
 
 // All three calls with one name, in a line. What is asked may be any bytes, as in `printing::saying`.
@@ -21,11 +21,18 @@ pub fn ask<R: Print>(
     let recalled = Answer::from(recall(store, name, board));
     let dropped = Answer::from(drop_name(store, name));
     rt.write_all(what)?;
-    println!(rt; ", save, recall, drop: {saved} {recalled} {dropped}")
+    rt.write_all(b", save, recall, drop:")?;
+    writeln!(io::writer(rt), " {saved} {recalled} {dropped}")
 }
 
 // Whether two texts, the first of so many bytes, are the same.
 pub fn say_compared<R: Print>(rt: &R, bytes: usize, same: bool) -> io::Result<()> {
-    let told = if same { "the same" } else { "another" };
-    println!(rt; "as if nothing had been tried: {bytes} bytes, {told}")
+    let told = if same {
+        " bytes, the same\n"
+    } else {
+        " bytes, another\n"
+    };
+    rt.write_all(b"as if nothing had been tried:")?;
+    write!(io::writer(rt), " {bytes}")?;
+    rt.write_all(told.as_bytes())
 }
