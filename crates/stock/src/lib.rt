@@ -64,7 +64,8 @@ impl From<Result<Totals, Refusal>> for Sums {
 }
 
 // What is turned down of a file and a board; a board that is not turned down, as an array of its places. The board is the only list, so that of
-// `boards::possible::judge` one test alone would be left.
+// `boards::possible::judge` one test alone would be left. Within its two calls it needs no frame of its own on the stack.
+#[inline(always)]
 fn judge_board<'a>(file: &[u8], board: &'a [u64]) -> Result<&'a [u64; BOARD_LENGTH], Refusal>
     ensures refused { refusal_of result ≡ stock_refusal file.now board.now }
     ensures same { IfOk result (λ b. b.now ≡ board.now) }
