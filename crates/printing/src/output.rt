@@ -29,6 +29,7 @@ pub fn write<R: Print + Eprint>(rt: &R, text: &[u8]) -> Result<(), Unwritten> {
 
 // Room for one month more: where it might not fit, what the text holds is written, and it begins again. No byte of its list is changed, so that what
 // could not be written still stands there.
+#[tactic(auto, unfolding(lines::specs::Texts::bytes_of, lines::specs::Texts::room_of))]
 pub fn make_room<R: Print + Eprint>(rt: &R, text: &mut Text) -> Result<(), Unwritten>
     requires { most_text ≤ length (bytes_of text.old) + room_of text.old }
     ensures room { most_text ≤ room_of text.new }
