@@ -1,6 +1,7 @@
 // read and write as a program may meet them and as no plain file shows them. Preloaded into a program, they move few bytes at a time, answer
-// every other call as if a signal had interrupted it, and fail after so many bytes:
+// calls as if a signal had interrupted them, and fail after so many bytes:
 //   AT_MOST            bytes that a call moves at most
+//   INTERRUPTED        how many calls in a row are interrupted before one moves bytes; else one
 //   FAILING, AFTER     a file, and how many of its bytes are read before a read fails as a damaged disk does
 //   FULL_AFTER         how many bytes go to standard output before a write fails as a full disk does
 // What is written elsewhere, as to standard error, is left alone.
@@ -14,7 +15,7 @@
 struct fault {
     int error;
     size_t moved;
-    int interrupted;
+    size_t interrupted;
 };
 
 static struct fault reads = {EIO, 0, 0};
@@ -38,11 +39,12 @@ static int failing(int fd) {
 
 // One call that moves bytes; after `most` bytes in all it fails.
 static ssize_t move(struct fault *fault, size_t most, long call, int fd, void *bytes, size_t count) {
-    fault->interrupted = !fault->interrupted;
-    if (fault->interrupted) {
+    if (fault->interrupted < (getenv("INTERRUPTED") ? number("INTERRUPTED") : 1)) {
+        fault->interrupted++;
         errno = EINTR;
         return -1;
     }
+    fault->interrupted = 0;
     if (fault->moved >= most) {
         errno = fault->error;
         return -1;

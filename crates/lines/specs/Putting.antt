@@ -25,7 +25,7 @@ abbrev pub most_text : ℕ
 most_text = 32_365
 
 -- what the text of a month asks for, of the bodies of an accepted file, the board that the month left and its report
-pub record CanList (w : Bodies) (board report : List ℕ) (t : Text) : Type 0 where
+pub record CanList (w : Bodies) (board report : List ℕ) : Type 0 where
   pub few : right_count w.rights.now ≤ 256
   pub some_row : 0 < rows_of w.stations.now
   pub few_rows : rows_of w.stations.now ≤ 64
@@ -33,4 +33,3 @@ pub record CanList (w : Bodies) (board report : List ℕ) (t : Text) : Type 0 wh
   pub told : report_end (right_count w.rights.now) (rows_of w.stations.now) (reservoir_count w.reservoirs.now) ≤ length report
   pub small : (v : ℕ) → v < reservoir_count w.reservoirs.now → get_or report (evaporation_place (right_count w.rights.now) (rows_of w.stations.now) v) 0 ≤ 2_000_000_000
   pub bounded : Bounded board
-  pub room : most_text ≤ room_of t

@@ -69,7 +69,7 @@ pub fn put_month(
     board: &[u64; BOARD_LENGTH],
     report: &[u64],
 )
-    requires { CanList bodies.now board.now report.now text.old }
+    requires { CanList bodies.now board.now report.now × (most_text ≤ room_of text.old) }
     ensures { let b = bodies.now in (ps : List ℕ) → Put most_text (month_text (basin_by b.stations.now b.reservoirs.now ps b.rights.now) month report.now board.now) text.old text.new }
 {
     let shape = bodies.shape();

@@ -23,8 +23,6 @@ use Rattle.boards.proofs.Bounds.{bounded}
 use Rattle.month.specs.Run.{CanRunSheet, SheetRan}
 use Rattle.month.proofs.Going.{still-possible, losses_told}
 use Rattle.listing.specs.Listing.{month_text, refusal_line}
-use Rattle.lines.specs.declared.text.Text.{Text}
-use Rattle.lines.specs.Texts.{room_of}
 use Rattle.lines.specs.Putting.{most_text, CanList, Put}
 use Rattle.lines.proofs.Texts.{put_none, put_through, list_kept}
 use Rattle.sheets.specs.Sheets.{sheet_of}
@@ -132,8 +130,8 @@ module _ (l : Listing) (can : CanStep l) (bs : Bodies) (e : BodiesOf l.file.now 
           refused-as a can.in_order (over-meets b (standing l) part a some_bytes whole r.0) el ew em (eb ∙ r.1) k q
 
       module _ (z : a.number ≡ 0) where
-        pub may-list : length rp' ≡ length l.report.now → (t : Text) → most_text ≤ room_of t → CanList bs bd' rp' t
-        may-list et t room = record {
+        pub may-list : length rp' ≡ length l.report.now → CanList bs bd' rp'
+        may-list et = record {
           few = omega (arith, bodies-rights bs, here.few_rights);
           some_row = omega (arith, bodies-rows bs, here.connected.some_row);
           few_rows = omega (arith, bodies-rows bs, here.few_rows);
@@ -141,7 +139,6 @@ module _ (l : Listing) (can : CanStep l) (bs : Bodies) (e : BodiesOf l.file.now 
           told = omega (arith, bodies-rights bs, bodies-rows bs, bodies-reservoirs bs, may-go.room, et);
           small = λ v h. omega (arith, losses_told (basin_in bs) here runoff l.board.now l.report.now (record { answer = a; board = bd'; report = rp' }) w z v (omega (arith, h, bodies-reservoirs bs)), ap (λ (x : ℕ). get_or rp' x 0) (place_of v));
           bounded = bounded b acc bd' (still-possible b acc (sheet_of (rows b) part) l.board.now l.report.now can.in_order.can (record { answer = a; board = bd'; report = rp' }) went);
-          room = room;
         }
           where
             here : Accepted (basin_in bs)

@@ -3,7 +3,6 @@ ghost use Rattle.std.specs.Prelude.{◌≡◌, List, ℕ, ◌+◌, ◌≤◌, le
 ghost use Rattle.answers.specs.Answers.{answer_of};
 ghost use Rattle.records.specs.Records.{bodies as basin_by};
 ghost use Rattle.listing.specs.Listing.{refusal_line, month_text};
-ghost use Rattle.lines.specs.declared.text.Text.{Text as Written};
 ghost use Rattle.lines.specs.Texts.{bytes_of, room_of};
 ghost use Rattle.lines.specs.Putting.{most_text, CanList, PutAt};
 ghost use Rattle.lister.specs.Lister.{text_of};
@@ -53,7 +52,7 @@ pub(crate) fn month_in(
     board: &[u64; BOARD_LENGTH],
     report: &[u64],
 ) -> usize
-    requires { ((t : Written) → most_text ≤ room_of t → CanList bodies.now board.now report.now t) × (at + most_text ≤ length list.old) }
+    requires { CanList bodies.now board.now report.now × (at + most_text ≤ length list.old) }
     ensures lines { let b = bodies.now in (ps : List ℕ) → PutAt at (month_text (basin_by b.stations.now b.reservoirs.now ps b.rights.now) month report.now board.now) list.old list.new result }
     ensures within { result ≤ at + most_text }
 {

@@ -52,6 +52,8 @@ fn room_in<R: Print + Eprint>(rt: &R, list: &mut [u8], at: usize) -> Result<usiz
     requires { (at ≤ length list.old) × (most_text ≤ length list.old) }
     ensures kept { list.new ≡ list.old }
     ensures room { IfOk result (λ n. n + most_text ≤ length list.old) }
+    ensures as_it_was { at + most_text ≤ length list.old → IfOk result (λ n. n ≡ at) }
+    ensures begins_again { length list.old < at + most_text → IfOk result (λ n. n ≡ 0) }
 {
     let mut text = Text::after(list, at);
     make_room(rt, &mut text)?;
@@ -63,6 +65,8 @@ pub fn room_for_month<R: Print + Eprint>(rt: &R, listing: &mut Listing) -> Resul
     requires { most_text ≤ length (bytes_of (text_of listing.old)) + room_of (text_of listing.old) }
     ensures made { RoomMade listing.old listing.new }
     ensures room { IfOk result (λ _. most_text ≤ room_of (text_of listing.new)) }
+    ensures as_it_was { most_text ≤ room_of (text_of listing.old) → listing.new.written ≡ listing.old.written }
+    ensures begins_again { room_of (text_of listing.old) < most_text → IfOk result (λ _. listing.new.written ≡ 0) }
     ensures unwritten { OnErr result (listing.new.written ≡ listing.old.written) }
 {
     listing.written = room_in(rt, listing.list, listing.written)?;

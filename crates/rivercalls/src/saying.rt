@@ -1,5 +1,5 @@
-// The lines of short months, written part by part. What was asked may be any bytes, as in `printing::saying`. `say` there and `say_months` differ in the type that is
-// printed; one function for both would be told it at each call, as `Months::from(..)`.
+// The lines of short months, written part by part. What was asked may be any bytes, as in `printing::saying`. `say` there and `say_months` differ in
+// the type that is printed; one function for both would be told it at each call, as `Months::from(..)`.
 use std::io::{self, Write};
 use stock::months::Months;
 

@@ -1,4 +1,4 @@
-// What a text is begun with, asked and given to hold.
+// What a text is begun with, asked and given to hold. Not in the file of the struct, which can't import definitions that name the struct.
 ghost use Rattle.std.specs.Prelude.{[], ◌≡◌, ◌+◌, ◌*◌, ◌<◌, ◌≤◌, length, map, take};
 ghost use Rattle.listing.specs.Listing.{decimal_text, line_of};
 ghost use Rattle.lines.specs.Texts.{bytes_of, room_of};

@@ -10,7 +10,7 @@ use Rattle.lines.proofs.Texts.{put_at}
 use Rattle.lister.proofs.texts.month_in.Goals as goal
 
 pub put_month-requires : goal.put_month-requires
-put_month-requires c = let t = c.after-text in c.requires.0 t.result (omega (arith, c.requires.1, t.ensures.room))
+put_month-requires c = (c.requires.0, omega (arith, c.requires.1, c.after-text.ensures.room))
 
 pub returns-clause-lines : goal.returns-clause-lines
 returns-clause-lines c =

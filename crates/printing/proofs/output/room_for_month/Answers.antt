@@ -22,3 +22,11 @@ returns-clause-made g c =
 pub returns-clause-room : goal.returns-clause-room
 unfolding room_of
 returns-clause-room g c = omega (arith, c.in_ok-listing.ensures.room, c.room_in.auto.list)
+
+pub returns-clause-as_it_was : goal.returns-clause-as_it_was
+unfolding room_of
+returns-clause-as_it_was g c = λ h. c.in_ok-listing.ensures.as_it_was (omega (arith, h, c.args.listing.now.within))
+
+pub returns-clause-begins_again : goal.returns-clause-begins_again
+unfolding room_of
+returns-clause-begins_again g c = λ h. c.in_ok-listing.ensures.begins_again (omega (arith, h, c.args.listing.now.within))
