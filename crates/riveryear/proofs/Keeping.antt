@@ -13,22 +13,22 @@ use Rattle.lister.specs.Lister.{Kept, InOrder}
 use Rattle.lister.proofs.Lent.{kept-then, ordered}
 use Rattle.yearly.specs.Opening.{YearOpened}
 use Rattle.yearly.proofs.Opened.{opened-months, opened-board, left-most}
-use Rattle.printing.specs.Going.{Going, CanRead, Went, RoomMade}
+use Rattle.printing.specs.Going.{Going, CanRead, Went}
 use Rattle.riveryear.specs.Going.{CanListYears, YearWent}
 
 -- a year is opened after room was made in the text
-module _ {book : List ℕ} {y : ℕ} {l l₁ l₂ : Listing} (c : CanListYears 1 l) (made : RoomMade l l₁) (w : YearOpened book y l₁ l₂) where
+module _ {book : List ℕ} {y : ℕ} {l l₁ l₂ : Listing} (c : CanListYears 1 l) (same : Kept l l₁) (months : l₁.months ≡ l.months) (board : l₁.board.now ≡ l.board.now) (w : YearOpened book y l₁ l₂) where
   kept : Kept l l₂
-  kept = kept-then made.kept w.kept
+  kept = kept-then same w.kept
 
   in_order : InOrder l₂
-  in_order = ordered c.going.in_order kept (ap (λ (b : List ℕ). possible (basin_of l.file.now) b) (opened-board w ∙ made.board) ∙ c.going.in_order.can)
+  in_order = ordered c.going.in_order kept (ap (λ (b : List ℕ). possible (basin_of l.file.now) b) (opened-board w ∙ board) ∙ c.going.in_order.can)
 
   going : Going l₂
   going = record { in_order = in_order; room = omega (arith, c.going.room, kept.text) }
 
   same-months : l₂.months ≡ l.months
-  same-months = opened-months w ∙ made.months
+  same-months = opened-months w ∙ months
 
   pub year-ended : YearWent l l₂
   year-ended = record { going = going; counted = omega (arith, same-months); kept = kept }
